@@ -1,0 +1,83 @@
+-- Histories: any frames after an accepted opening, with all the clauses ever added; and what the theorems say of them.
+use mathlib.Core.Path.{_≡_}
+use mathlib.Core.Bool.{Bool, true, false}
+use mathlib.Core.List.{List, [], _∷_, List·Memᴰ}
+use Prim.Native.Nat.{ℕ}
+use lib.IntN.{ℤ}
+use Rattle.rules.specs.Lists.{any, all}
+use Rattle.rules.specs.Terms.{Assignment, lit, sat, holds, mentions, Held, State}
+use Rattle.rules.specs.Frames.{Frame, ADD, LEARN, FORGET, PROMOTE, DROP, WEAKEN, RESTORE, SAT, UNSAT, Parsed, malformed, framed, parse}
+use Rattle.rules.specs.Answers.{outcome, check-open, opened}
+use Rattle.rules.specs.declared.Check.the-variants.{Passed}
+use Rattle.rules.specs.declared.Answer.{Answer}
+use Rattle.rules.specs.declared.Answer.the-variants.{Accepted, Refused}
+
+-- ---- runs
+
+-- a state, and all the clauses ever added
+pub record History : Type 0 where
+  pub state : State
+  pub added : List (List ℤ)
+
+-- an accepted ADD, and nothing else, adds its clause
+abbrev pub adds : Frame → List (List ℤ) → List (List ℤ)
+adds (ADD i c) cs = c ∷ cs
+adds (LEARN i c hints) cs = cs
+adds (FORGET i) cs = cs
+adds (PROMOTE i) cs = cs
+adds (DROP i hints) cs = cs
+adds (WEAKEN i w ws) cs = cs
+adds (RESTORE i) cs = cs
+adds (SAT assumed vs) cs = cs
+adds (UNSAT assumed hints) cs = cs
+
+abbrev pub added-by : Answer → Parsed → List (List ℤ) → List (List ℤ)
+added-by (Refused e) p cs = cs
+added-by (Accepted n) malformed cs = cs
+added-by (Accepted n) (framed f) cs = adds f cs
+
+-- the history with one frame more
+unfoldable pub step : History → List ℤ → History
+step h ws = record { state = outcome (h .state) ws .state; added = added-by (outcome (h .state) ws .answer) (parse ws) (h .added) }
+
+unfoldable pub steps : History → List (List ℤ) → History
+steps h [] = h
+steps h (ws ∷ more) = steps (step h ws) more
+
+-- the history is reached from an accepted opening by some frames, refused ones included
+pub record Reached (h : History) : Type 0 where
+  pub vars : ℕ
+  pub entries : ℕ
+  pub words : ℕ
+  pub accepted : check-open vars entries words ≡ Passed
+  pub frames : List (List ℤ)
+  pub by-frames : h ≡ steps (record { state = opened vars entries words; added = [] }) frames
+
+-- ---- models
+
+-- every held clause has a true literal
+abbrev pub models : Assignment → List Held → Bool
+models α hs = all (λ h. sat α (h .lits)) hs
+
+-- the assignment satisfies all the clauses; and makes every assumption true
+abbrev pub Models : Assignment → List (List ℤ) → Type 0
+Models α cs = all (sat α) cs ≡ true
+
+abbrev pub Assumes : Assignment → List ℤ → Type 0
+Assumes α assumed = all (lit α) assumed ≡ true
+
+-- v is no variable of a stacked witness
+abbrev pub Unwitnessed : State → ℕ → Type 0
+Unwitnessed s v = any (λ r. mentions (r .witness) v) (s .stack) ≡ false
+
+-- ---- the same set
+
+abbrev pub SameLiterals : List ℤ → List ℤ → Type 0
+SameLiterals c d = (l : ℤ) → holds c l ≡ holds d l
+
+-- each clause of the one is, as a set of literals, a clause of the other
+abbrev pub Within : List (List ℤ) → List (List ℤ) → Type 0
+Within cs ds = (c : List ℤ) → List·Memᴰ c cs → (d : List ℤ) × List·Memᴰ d ds × SameLiterals c d
+
+abbrev pub SameClauses : List (List ℤ) → List (List ℤ) → Type 0
+SameClauses cs ds = Within cs ds × Within ds cs
