@@ -1,16 +1,14 @@
 -- What each check leaves when it has passed.
-use mathlib.Core.Path.{_≡_, refl, sym, _∙_, ap}
-use mathlib.Core.Bool.{Bool, true, false, not, cond, _&&_, false≢true}
-use mathlib.Core.List.{List, [], _∷_, _++_}
+use mathlib.Core.Path.{_≡_, refl}
+use mathlib.Core.Bool.{Bool, true, false, not}
+use mathlib.Core.List.{List, [], _∷_}
 use Prim.Native.Nat.{ℕ, _+_, _≤_}
-use native.Mathlib.Omega.{arith}
-use lib.Dec.{eqb, leb}
+use lib.Dec.{eqb}
 use lib.IntN.{ℤ, natAbs}
 use lib.ListN.{length}
 use borrow.Author.Tests.{le-leb, eqb-true, eq-eqb}
 use Rattle.rules.specs.Lists.{any, all}
-use Rattle.rules.specs.Terms.{in-range, mentions, distinct, is-clause, Assignment, upd, lit, Held}
-use Rattle.rules.specs.Propagation.{proves}
+use Rattle.rules.specs.Terms.{in-range, mentions, distinct, is-clause, Assignment, upd, Held}
 use Rattle.rules.specs.Answers.{_then_, need, flaw, unseen, cleanly, satisfied, assumed-true, decided}
 use Rattle.rules.specs.Histories.{models, Assumes}
 use Rattle.rules.specs.declared.Verdict.{Verdict}
@@ -18,7 +16,7 @@ use Rattle.rules.specs.declared.Verdict.the-variants.{Proved, BadHint, U
 use Rattle.rules.specs.declared.Fault.{Fault}
 use Rattle.rules.specs.declared.Check.{Check}
 use Rattle.rules.specs.declared.Check.the-variants.{Passed, Failed}
-use Rattle.rules.proofs.Lists.{by-cases, true-false, not-true, and-left, and-right, and-both, or-false, all-nil, all-cons}
+use Rattle.rules.proofs.Lists.{by-cases, true-false, not-true, and-left, and-right, and-both, all-nil, all-cons}
 use Rattle.rules.proofs.Held.{meets, clean-of, clean-all}
 
 pub then-left : (a b : Check) → (a then b) ≡ Passed → a ≡ Passed
@@ -79,11 +77,11 @@ flawless vars seen at (l ∷ c) e =
     let t = need-true _ _ (then-left _ _ e) in
     let r = flawless vars (upd seen (natAbs l) true) (at + 1) c (then-right _ _ e) in
     let new : seen (natAbs l) ≡ false = not-true (and-right (in-range vars l) (not (seen (natAbs l))) t) in
-    record
-      { range = all-cons _ _ _ (and-left (in-range vars l) (not (seen (natAbs l))) t) (r .range)
-      ; once = let k = r .fresh (natAbs l) (seen-now seen (natAbs l)) in rw k (r .once)
-      ; fresh = λ v h. let k = r .fresh v (seen-more seen (natAbs l) v h) in by-cases (eqb (natAbs l) v) (λ q. true-false h (rw (eqb-true (natAbs l) v q) at new)) (λ q. rw (q, k))
-      }
+    record {
+      range = all-cons _ _ _ (and-left (in-range vars l) (not (seen (natAbs l))) t) (r .range);
+      once = let k = r .fresh (natAbs l) (seen-now seen (natAbs l)) in rw k (r .once);
+      fresh = λ v h. let k = r .fresh v (seen-more seen (natAbs l) v h) in by-cases (eqb (natAbs l) v) (λ q. true-false h (rw (eqb-true (natAbs l) v q) at new)) (λ q. rw (q, k));
+    }
 
 -- a list of at most 256 literals that passes is a clause
 pub flaw-clause : (vars at : ℕ) (c : List ℤ) → length c ≤ 256 → flaw vars unseen at c ≡ Passed → is-clause vars c ≡ true

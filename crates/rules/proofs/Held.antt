@@ -1,13 +1,13 @@
 -- Laws of places, and of the walk down the stack.
-use mathlib.Core.Path.{_≡_, refl, sym, _∙_, ap}
-use mathlib.Core.Bool.{Bool, true, false, not, cond, _&&_, _||_, true≢false, false≢true}
-use mathlib.Core.List.{List, [], _∷_, _++_, List·Memᴰ}
-use Prim.Native.Nat.{ℕ, zero, suc}
+use mathlib.Core.Path.{_≡_, refl, _∙_}
+use mathlib.Core.Bool.{Bool, true, false, false≢true}
+use mathlib.Core.List.{List, [], _∷_, List·Memᴰ}
+use Prim.Native.Nat.{ℕ}
 use lib.Dec.{eqb, ltb}
 use lib.IntN.{ℤ}
 use Rattle.rules.specs.Lists.{any, all}
-use Rattle.rules.specs.Terms.{Assignment, lit, sat, clean, opposes, holds, mentions, Held, has, fetch}
-use Rattle.rules.specs.Frames.{without, above, place, make, repair, mend}
+use Rattle.rules.specs.Terms.{Assignment, lit, sat, clean, mentions, Held, has, fetch}
+use Rattle.rules.specs.Frames.{without, above, place, repair, mend}
 use Rattle.rules.specs.Histories.{models}
 use Rattle.rules.proofs.Lists.{by-cases, not-true, or-false, any-in, any-find, all-at, all-cons, all-head, all-tail}
 use Rattle.rules.proofs.Literals.{make-keeps, make-other}
@@ -24,33 +24,33 @@ module _ (p : Held → Bool) where
   unfolding without
   without-all [] i h = h
   without-all (x ∷ hs) i h = by-cases (eqb (x .id) i)
-    (λ e. rw e (all-tail p _ _ h))
-    (λ e. rw e (all-cons p _ _ (all-head p _ _ h) (without-all hs i (all-tail p _ _ h))))
+      (λ e. rw e (all-tail p _ _ h))
+      (λ e. rw e (all-cons p _ _ (all-head p _ _ h) (without-all hs i (all-tail p _ _ h))))
 
   -- what was taken out, put back
   pub with-fetch : (hs : List Held) (i : ℕ) → p (fetch hs i) ≡ true → all p (without hs i) ≡ true → all p hs ≡ true
   unfolding fetch without
   with-fetch [] i q h = h
   with-fetch (x ∷ hs) i q h = by-cases (eqb (x .id) i)
-    (λ e. all-cons p _ _ (rw e at q) (rw e at h))
-    (λ e. let k : all p (x ∷ without hs i) ≡ true = rw e at h in all-cons p _ _ (all-head p _ _ k) (with-fetch hs i (rw e at q) (all-tail p _ _ k)))
+      (λ e. all-cons p _ _ (rw e at q) (rw e at h))
+      (λ e. let k : all p (x ∷ without hs i) ≡ true = rw e at h in all-cons p _ _ (all-head p _ _ k) (with-fetch hs i (rw e at q) (all-tail p _ _ k)))
 
   pub place-all : (x : Held) (hs : List Held) → p x ≡ true → all p hs ≡ true → all p (place x hs) ≡ true
   unfolding place
   place-all x [] q h = all-cons p _ _ q h
   place-all x (y ∷ hs) q h = by-cases (ltb (x .id) (y .id))
-    (λ e. rw e (all-cons p _ _ q h))
-    (λ e. rw e (all-cons p _ _ (all-head p _ _ h) (place-all x hs q (all-tail p _ _ h))))
+      (λ e. rw e (all-cons p _ _ q h))
+      (λ e. rw e (all-cons p _ _ (all-head p _ _ h) (place-all x hs q (all-tail p _ _ h))))
 
   pub place-each : (x : Held) (hs : List Held) → all p (place x hs) ≡ true → (p x ≡ true) × (all p hs ≡ true)
   unfolding place
   place-each x [] h = (all-head p _ _ h, all-tail p _ _ h)
   place-each x (y ∷ hs) h = by-cases (ltb (x .id) (y .id))
-    (λ e. let k : all p (x ∷ y ∷ hs) ≡ true = rw e at h in (all-head p _ _ k, all-tail p _ _ k))
-    (λ e.
-        let k : all p (y ∷ place x hs) ≡ true = rw e at h in
-        let r = place-each x hs (all-tail p _ _ k) in
-        (r .0, all-cons p _ _ (all-head p _ _ k) (r .1)))
+      (λ e. let k : all p (x ∷ y ∷ hs) ≡ true = rw e at h in (all-head p _ _ k, all-tail p _ _ k))
+      (λ e.
+      let k : all p (y ∷ place x hs) ≡ true = rw e at h in
+      let r = place-each x hs (all-tail p _ _ k) in
+      (r .0, all-cons p _ _ (all-head p _ _ k) (r .1)))
 
 -- ---- the walk
 
@@ -102,6 +102,6 @@ mend-without [] i α k h = refl
 mend-without (r ∷ rs) i α k h = by-cases (eqb (r .id) i)
     (λ e. let t : sat α (r .lits) ≡ true = rw e at h in rw (e, t))
     (λ e.
-        let c = fetch rs i .lits in
-        let k2 : clean-all c (r ∷ above rs i) ≡ true = rw e at k in
-        rw e (mend-without rs i (repair α r) (all-tail (clean-of c) _ _ k2) (repair-clean α c r (all-head (clean-of c) _ _ k2) (rw e at h))))
+    let c = fetch rs i .lits in
+    let k2 : clean-all c (r ∷ above rs i) ≡ true = rw e at k in
+    rw e (mend-without rs i (repair α r) (all-tail (clean-of c) _ _ k2) (repair-clean α c r (all-head (clean-of c) _ _ k2) (rw e at h))))

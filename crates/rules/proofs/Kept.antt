@@ -1,8 +1,8 @@
 -- Every accepted step keeps the terms.
-use mathlib.Core.Path.{_≡_, refl, sym, _∙_, ap}
-use mathlib.Core.Bool.{Bool, true, false, cond, _&&_}
+use mathlib.Core.Path.{_≡_, refl}
+use mathlib.Core.Bool.{Bool, true, _&&_}
 use mathlib.Core.List.{List, [], _∷_, _++_}
-use Prim.Native.Nat.{ℕ, zero, suc, _+_, _≤_, _<_}
+use Prim.Native.Nat.{ℕ, _+_, _≤_, _<_}
 use native.Mathlib.Omega.{arith}
 use lib.Dec.{eqb, ltb, leb}
 use lib.IntN.{ℤ}
@@ -16,7 +16,7 @@ use Rattle.rules.specs.declared.Check.the-variants.{Passed}
 use Rattle.rules.proofs.Lists.{by-cases, and-left, and-right, and-both, all-nil, all-cons, all-at, all-of, all-append, all-split}
 use Rattle.rules.proofs.Held.{fetch-all, without-all, place-all}
 use Rattle.rules.proofs.Checks.{then-left, then-right, need-true, flaw-clause}
-use Rattle.rules.proofs.Places.{fetch-id, one, tally-append, tally-place, tally-without, tally-has, words-of, length-place, length-without, room-append, room-place, room-without, rising-place, rising-without}
+use Rattle.rules.proofs.Places.{fetch-id, one, tally-append, tally-place, tally-without, tally-has, length-place, length-without, room-append, room-place, room-without, rising-place, rising-without}
 use Rattle.rules.proofs.Shaped.{Shaped}
 
 -- ---- sums over the three places
@@ -86,48 +86,48 @@ module _ (s : State) (T : Terms s) where
     unfolding tally all is-id
     tally-new [] a = refl
     tally-new (h ∷ hs) a =
-      let k = and-left (ltb 0 (h .id) && leb (h .id) (s .highest)) (all (is-id (s .highest)) hs) a in
-      let b = leb-true (h .id) (s .highest) (and-right (ltb 0 (h .id)) (leb (h .id) (s .highest)) k) in
-      let n = ne-eqb (h .id) i (λ q. omega arith) in
-      let r = tally-new hs (and-right (ltb 0 (h .id) && leb (h .id) (s .highest)) (all (is-id (s .highest)) hs) a) in
-      rw n (omega arith)
+        let k = and-left (ltb 0 (h .id) && leb (h .id) (s .highest)) (all (is-id (s .highest)) hs) a in
+        let b = leb-true (h .id) (s .highest) (and-right (ltb 0 (h .id)) (leb (h .id) (s .highest)) k) in
+        let n = ne-eqb (h .id) i (λ q. omega arith) in
+        let r = tally-new hs (and-right (ltb 0 (h .id) && leb (h .id) (s .highest)) (all (is-id (s .highest)) hs) a) in
+        rw n (omega arith)
 
     -- at most one of each id, with one more of the new
     distinct-new : (j : ℕ) → one i j + (tally j irr + (tally j lrn + tally j stk)) ≤ 1
     distinct-new j = by-cases (eqb i j)
-      (λ e. let q = eqb-true i j e in rw (e, ← q) (omega (arith, tally-new irr ids-irr, tally-new lrn ids-lrn, tally-new stk ids-stk)))
-      (λ e. rw e (omega (arith, distinct j)))
+        (λ e. let q = eqb-true i j e in rw (e, ← q) (omega (arith, tally-new irr ids-irr, tally-new lrn ids-lrn, tally-new stk ids-stk)))
+        (λ e. rw e (omega (arith, distinct j)))
 
     pub terms-add : length (everything s) < s .entries → room (everything s) + length c ≤ s .words → Terms (next s (ADD i c))
     terms-add more fits =
-      let irr′ = place (plain i c) irr in
-      record
-        { vars-in-range = T .vars-in-range
-        ; ids-distinct = λ j. omega (arith, tally-whole irr′ lrn stk j, tally-place j (plain i c) irr, distinct-new j)
-        ; ids-in-range = whole-all irr′ lrn stk (is-id i) (place-all (is-id i) (plain i c) irr id-new (ids-more irr ids-irr)) (ids-more lrn ids-lrn) (ids-more stk ids-stk)
-        ; irredundant = place-all (is-plain (s .vars)) (plain i c) irr plain-new (T .irredundant)
-        ; learned = T .learned
-        ; stack = T .stack
-        ; irredundant-rising = rising-place (plain i c) irr (tally-new irr ids-irr) (T .irredundant-rising)
-        ; learned-rising = T .learned-rising
-        ; within-entries = omega (arith, length-whole irr′ lrn stk, length-place (plain i c) irr, length-whole irr lrn stk, more)
-        ; within-words = omega (arith, room-whole irr′ lrn stk, room-place (plain i c) irr, room-whole irr lrn stk, fits)
+        let irr′ = place (plain i c) irr in
+        record {
+          vars-in-range = T .vars-in-range;
+          ids-distinct = λ j. omega (arith, tally-whole irr′ lrn stk j, tally-place j (plain i c) irr, distinct-new j);
+          ids-in-range = whole-all irr′ lrn stk (is-id i) (place-all (is-id i) (plain i c) irr id-new (ids-more irr ids-irr)) (ids-more lrn ids-lrn) (ids-more stk ids-stk);
+          irredundant = place-all (is-plain (s .vars)) (plain i c) irr plain-new (T .irredundant);
+          learned = T .learned;
+          stack = T .stack;
+          irredundant-rising = rising-place (plain i c) irr (tally-new irr ids-irr) (T .irredundant-rising);
+          learned-rising = T .learned-rising;
+          within-entries = omega (arith, length-whole irr′ lrn stk, length-place (plain i c) irr, length-whole irr lrn stk, more);
+          within-words = omega (arith, room-whole irr′ lrn stk, room-place (plain i c) irr, room-whole irr lrn stk, fits);
         }
 
     pub terms-learn : (hints : List ℤ) → length (everything s) < s .entries → room (everything s) + length c ≤ s .words → Terms (next s (LEARN i c hints))
     terms-learn hints more fits =
-      let lrn′ = place (plain i c) lrn in
-      record
-        { vars-in-range = T .vars-in-range
-        ; ids-distinct = λ j. omega (arith, tally-whole irr lrn′ stk j, tally-place j (plain i c) lrn, distinct-new j)
-        ; ids-in-range = whole-all irr lrn′ stk (is-id i) (ids-more irr ids-irr) (place-all (is-id i) (plain i c) lrn id-new (ids-more lrn ids-lrn)) (ids-more stk ids-stk)
-        ; irredundant = T .irredundant
-        ; learned = place-all (is-plain (s .vars)) (plain i c) lrn plain-new (T .learned)
-        ; stack = T .stack
-        ; irredundant-rising = T .irredundant-rising
-        ; learned-rising = rising-place (plain i c) lrn (tally-new lrn ids-lrn) (T .learned-rising)
-        ; within-entries = omega (arith, length-whole irr lrn′ stk, length-place (plain i c) lrn, length-whole irr lrn stk, more)
-        ; within-words = omega (arith, room-whole irr lrn′ stk, room-place (plain i c) lrn, room-whole irr lrn stk, fits)
+        let lrn′ = place (plain i c) lrn in
+        record {
+          vars-in-range = T .vars-in-range;
+          ids-distinct = λ j. omega (arith, tally-whole irr lrn′ stk j, tally-place j (plain i c) lrn, distinct-new j);
+          ids-in-range = whole-all irr lrn′ stk (is-id i) (ids-more irr ids-irr) (place-all (is-id i) (plain i c) lrn id-new (ids-more lrn ids-lrn)) (ids-more stk ids-stk);
+          irredundant = T .irredundant;
+          learned = place-all (is-plain (s .vars)) (plain i c) lrn plain-new (T .learned);
+          stack = T .stack;
+          irredundant-rising = T .irredundant-rising;
+          learned-rising = rising-place (plain i c) lrn (tally-new lrn ids-lrn) (T .learned-rising);
+          within-entries = omega (arith, length-whole irr lrn′ stk, length-place (plain i c) lrn, length-whole irr lrn stk, more);
+          within-words = omega (arith, room-whole irr lrn′ stk, room-place (plain i c) lrn, room-whole irr lrn stk, fits);
         }
 
   -- ---- a clause goes
@@ -150,35 +150,35 @@ module _ (s : State) (T : Terms s) where
 
     pub terms-forget : Terms (next s (FORGET i))
     terms-forget =
-      record
-        { vars-in-range = T .vars-in-range
-        ; ids-distinct = λ j. omega (arith, tally-whole irr lrn′ stk j, tally-without j i lrn m, distinct j)
-        ; ids-in-range = whole-all irr lrn′ stk (is-id (s .highest)) ids-irr (without-all _ lrn i ids-lrn) ids-stk
-        ; irredundant = T .irredundant
-        ; learned = without-all _ lrn i (T .learned)
-        ; stack = T .stack
-        ; irredundant-rising = T .irredundant-rising
-        ; learned-rising = rising-without lrn i (T .learned-rising)
-        ; within-entries = omega (arith, length-whole irr lrn′ stk, length-without i lrn m, entries)
-        ; within-words = omega (arith, room-whole irr lrn′ stk, room-without i lrn m, words)
+        record {
+          vars-in-range = T .vars-in-range;
+          ids-distinct = λ j. omega (arith, tally-whole irr lrn′ stk j, tally-without j i lrn m, distinct j);
+          ids-in-range = whole-all irr lrn′ stk (is-id (s .highest)) ids-irr (without-all _ lrn i ids-lrn) ids-stk;
+          irredundant = T .irredundant;
+          learned = without-all _ lrn i (T .learned);
+          stack = T .stack;
+          irredundant-rising = T .irredundant-rising;
+          learned-rising = rising-without lrn i (T .learned-rising);
+          within-entries = omega (arith, length-whole irr lrn′ stk, length-without i lrn m, entries);
+          within-words = omega (arith, room-whole irr lrn′ stk, room-without i lrn m, words);
         }
 
     pub terms-promote : Terms (next s (PROMOTE i))
     unfolding is-plain
     terms-promote =
-      let c = fetch lrn i .lits in
-      let irr′ = place (plain i c) irr in
-      record
-        { vars-in-range = T .vars-in-range
-        ; ids-distinct = λ j. omega (arith, tally-whole irr′ lrn′ stk j, tally-place j (plain i c) irr, tally-without j i lrn m, distinct j)
-        ; ids-in-range = whole-all irr′ lrn′ stk (is-id (s .highest)) (place-all _ (plain i c) irr (id-at lrn i m ids-lrn c []) ids-irr) (without-all _ lrn i ids-lrn) ids-stk
-        ; irredundant = place-all (is-plain (s .vars)) (plain i c) irr (plain-at i c (clause-of lrn i (λ h. null (h .witness)) m (T .learned))) (T .irredundant)
-        ; learned = without-all _ lrn i (T .learned)
-        ; stack = T .stack
-        ; irredundant-rising = rising-place (plain i c) irr (omega (arith, tally-has i lrn m, distinct i)) (T .irredundant-rising)
-        ; learned-rising = rising-without lrn i (T .learned-rising)
-        ; within-entries = omega (arith, length-whole irr′ lrn′ stk, length-place (plain i c) irr, length-without i lrn m, entries)
-        ; within-words = omega (arith, room-whole irr′ lrn′ stk, room-place (plain i c) irr, room-without i lrn m, words)
+        let c = fetch lrn i .lits in
+        let irr′ = place (plain i c) irr in
+        record {
+          vars-in-range = T .vars-in-range;
+          ids-distinct = λ j. omega (arith, tally-whole irr′ lrn′ stk j, tally-place j (plain i c) irr, tally-without j i lrn m, distinct j);
+          ids-in-range = whole-all irr′ lrn′ stk (is-id (s .highest)) (place-all _ (plain i c) irr (id-at lrn i m ids-lrn c []) ids-irr) (without-all _ lrn i ids-lrn) ids-stk;
+          irredundant = place-all (is-plain (s .vars)) (plain i c) irr (plain-at i c (clause-of lrn i (λ h. null (h .witness)) m (T .learned))) (T .irredundant);
+          learned = without-all _ lrn i (T .learned);
+          stack = T .stack;
+          irredundant-rising = rising-place (plain i c) irr (omega (arith, tally-has i lrn m, distinct i)) (T .irredundant-rising);
+          learned-rising = rising-without lrn i (T .learned-rising);
+          within-entries = omega (arith, length-whole irr′ lrn′ stk, length-place (plain i c) irr, length-without i lrn m, entries);
+          within-words = omega (arith, room-whole irr′ lrn′ stk, room-place (plain i c) irr, room-without i lrn m, words);
         }
 
   module _ (i : ℕ) (m : has irr i ≡ true) where
@@ -187,55 +187,55 @@ module _ (s : State) (T : Terms s) where
 
     pub terms-drop : (hints : List ℤ) → Terms (next s (DROP i hints))
     terms-drop hints =
-      record
-        { vars-in-range = T .vars-in-range
-        ; ids-distinct = λ j. omega (arith, tally-whole irr′ lrn stk j, tally-without j i irr m, distinct j)
-        ; ids-in-range = whole-all irr′ lrn stk (is-id (s .highest)) (without-all _ irr i ids-irr) ids-lrn ids-stk
-        ; irredundant = without-all _ irr i (T .irredundant)
-        ; learned = T .learned
-        ; stack = T .stack
-        ; irredundant-rising = rising-without irr i (T .irredundant-rising)
-        ; learned-rising = T .learned-rising
-        ; within-entries = omega (arith, length-whole irr′ lrn stk, length-without i irr m, entries)
-        ; within-words = omega (arith, room-whole irr′ lrn stk, room-without i irr m, words)
+        record {
+          vars-in-range = T .vars-in-range;
+          ids-distinct = λ j. omega (arith, tally-whole irr′ lrn stk j, tally-without j i irr m, distinct j);
+          ids-in-range = whole-all irr′ lrn stk (is-id (s .highest)) (without-all _ irr i ids-irr) ids-lrn ids-stk;
+          irredundant = without-all _ irr i (T .irredundant);
+          learned = T .learned;
+          stack = T .stack;
+          irredundant-rising = rising-without irr i (T .irredundant-rising);
+          learned-rising = T .learned-rising;
+          within-entries = omega (arith, length-whole irr′ lrn stk, length-without i irr m, entries);
+          within-words = omega (arith, room-whole irr′ lrn stk, room-without i irr m, words);
         }
 
     pub terms-weaken : (w ws : List ℤ) → is-clause (s .vars) w ≡ true → any (holds w) (fetch irr i .lits) ≡ true → room (everything s) + length w ≤ s .words → Terms (next s (WEAKEN i w ws))
     unfolding is-plain is-record is-witness tally room
     terms-weaken w ws okay meets fits =
-      let c = fetch irr i .lits in
-      let r : Held = record { id = i; lits = c; witness = w } in
-      record
-        { vars-in-range = T .vars-in-range
-        ; ids-distinct = λ j. omega (arith, tally-whole irr′ lrn (r ∷ stk) j, tally-without j i irr m, distinct j)
-        ; ids-in-range = whole-all irr′ lrn (r ∷ stk) (is-id (s .highest)) (without-all _ irr i ids-irr) ids-lrn (all-cons _ r stk (id-at irr i m ids-irr c w) ids-stk)
-        ; irredundant = without-all _ irr i (T .irredundant)
-        ; learned = T .learned
-        ; stack = all-cons _ r stk (and-both (clause-of irr i (λ h. null (h .witness)) m (T .irredundant)) (and-both okay meets)) (T .stack)
-        ; irredundant-rising = rising-without irr i (T .irredundant-rising)
-        ; learned-rising = T .learned-rising
-        ; within-entries = omega (arith, length-whole irr′ lrn (r ∷ stk), length-without i irr m, entries)
-        ; within-words = omega (arith, room-whole irr′ lrn (r ∷ stk), room-without i irr m, room-whole irr lrn stk, fits)
+        let c = fetch irr i .lits in
+        let r : Held = record { id = i; lits = c; witness = w } in
+        record {
+          vars-in-range = T .vars-in-range;
+          ids-distinct = λ j. omega (arith, tally-whole irr′ lrn (r ∷ stk) j, tally-without j i irr m, distinct j);
+          ids-in-range = whole-all irr′ lrn (r ∷ stk) (is-id (s .highest)) (without-all _ irr i ids-irr) ids-lrn (all-cons _ r stk (id-at irr i m ids-irr c w) ids-stk);
+          irredundant = without-all _ irr i (T .irredundant);
+          learned = T .learned;
+          stack = all-cons _ r stk (and-both (clause-of irr i (λ h. null (h .witness)) m (T .irredundant)) (and-both okay meets)) (T .stack);
+          irredundant-rising = rising-without irr i (T .irredundant-rising);
+          learned-rising = T .learned-rising;
+          within-entries = omega (arith, length-whole irr′ lrn (r ∷ stk), length-without i irr m, entries);
+          within-words = omega (arith, room-whole irr′ lrn (r ∷ stk), room-without i irr m, room-whole irr lrn stk, fits);
         }
 
   module _ (i : ℕ) (m : has stk i ≡ true) where
     pub terms-restore : Terms (next s (RESTORE i))
     unfolding is-record
     terms-restore =
-      let c = fetch stk i .lits in
-      let irr″ = place (plain i c) irr in
-      let stk′ = without stk i in
-      record
-        { vars-in-range = T .vars-in-range
-        ; ids-distinct = λ j. omega (arith, tally-whole irr″ lrn stk′ j, tally-place j (plain i c) irr, tally-without j i stk m, distinct j)
-        ; ids-in-range = whole-all irr″ lrn stk′ (is-id (s .highest)) (place-all _ (plain i c) irr (id-at stk i m ids-stk c []) ids-irr) ids-lrn (without-all _ stk i ids-stk)
-        ; irredundant = place-all (is-plain (s .vars)) (plain i c) irr (plain-at i c (clause-of stk i (λ r. is-witness (s .vars) (r .lits) (r .witness)) m (T .stack))) (T .irredundant)
-        ; learned = T .learned
-        ; stack = without-all _ stk i (T .stack)
-        ; irredundant-rising = rising-place (plain i c) irr (omega (arith, tally-has i stk m, distinct i)) (T .irredundant-rising)
-        ; learned-rising = T .learned-rising
-        ; within-entries = omega (arith, length-whole irr″ lrn stk′, length-place (plain i c) irr, length-without i stk m, entries)
-        ; within-words = omega (arith, room-whole irr″ lrn stk′, room-place (plain i c) irr, room-without i stk m, words)
+        let c = fetch stk i .lits in
+        let irr″ = place (plain i c) irr in
+        let stk′ = without stk i in
+        record {
+          vars-in-range = T .vars-in-range;
+          ids-distinct = λ j. omega (arith, tally-whole irr″ lrn stk′ j, tally-place j (plain i c) irr, tally-without j i stk m, distinct j);
+          ids-in-range = whole-all irr″ lrn stk′ (is-id (s .highest)) (place-all _ (plain i c) irr (id-at stk i m ids-stk c []) ids-irr) ids-lrn (without-all _ stk i ids-stk);
+          irredundant = place-all (is-plain (s .vars)) (plain i c) irr (plain-at i c (clause-of stk i (λ r. is-witness (s .vars) (r .lits) (r .witness)) m (T .stack))) (T .irredundant);
+          learned = T .learned;
+          stack = without-all _ stk i (T .stack);
+          irredundant-rising = rising-place (plain i c) irr (omega (arith, tally-has i stk m, distinct i)) (T .irredundant-rising);
+          learned-rising = T .learned-rising;
+          within-entries = omega (arith, length-whole irr″ lrn stk′, length-place (plain i c) irr, length-without i stk m, entries);
+          within-words = omega (arith, room-whole irr″ lrn stk′, room-place (plain i c) irr, room-without i stk m, words);
         }
 
 -- ---- every accepted frame
@@ -266,15 +266,15 @@ terms-kept s (UNSAT assumed hints) sh T e = T
 pub begins-terms : (vars entries words : ℕ) → check-open vars entries words ≡ Passed → Terms (opened vars entries words)
 unfolding check-open tally rising room
 begins-terms vars entries words e =
-    record
-      { vars-in-range = need-true _ _ (then-right _ _ e)
-      ; ids-distinct = λ i. omega arith
-      ; ids-in-range = all-nil _
-      ; irredundant = all-nil _
-      ; learned = all-nil _
-      ; stack = all-nil _
-      ; irredundant-rising = refl
-      ; learned-rising = refl
-      ; within-entries = omega arith
-      ; within-words = omega arith
-      }
+    record {
+      vars-in-range = need-true _ _ (then-right _ _ e);
+      ids-distinct = λ i. omega arith;
+      ids-in-range = all-nil _;
+      irredundant = all-nil _;
+      learned = all-nil _;
+      stack = all-nil _;
+      irredundant-rising = refl;
+      learned-rising = refl;
+      within-entries = omega arith;
+      within-words = omega arith;
+    }

@@ -1,15 +1,13 @@
 -- The theorems, shown: what a reached history keeps (Sound, Kept), put together with what an accepted frame's checks leave.
-use mathlib.Core.Path.{_≡_, refl, sym, _∙_, ap}
+use mathlib.Core.Path.{_≡_, refl, sym, _∙_}
 use mathlib.Core.Logic.{_↔_}
-use mathlib.Core.Bool.{Bool, true, false, false≢true}
-use mathlib.Core.List.{List, [], _∷_, _++_, map, List·Memᴰ}
+use mathlib.Core.Bool.{true, false≢true}
+use mathlib.Core.List.{List, [], _∷_, map}
 use Prim.Native.Nat.{ℕ}
-use native.Mathlib.Omega.{arith}
 use lib.IntN.{ℤ, negℤ}
-use Rattle.rules.specs.Lists.{any, all}
-use Rattle.rules.specs.Terms.{holds, clean, Assignment, lit, sat, Held, State, everything, Terms}
-use Rattle.rules.specs.Propagation.{among, proves}
-use Rattle.rules.specs.Frames.{Frame, SAT, UNSAT, Parsed, malformed, framed, parse, offered, mend, next}
+use Rattle.rules.specs.Lists.{any}
+use Rattle.rules.specs.Terms.{Assignment, lit, sat, State, everything, Terms}
+use Rattle.rules.specs.Frames.{Frame, SAT, UNSAT, Parsed, malformed, framed, parse, offered, mend}
 use Rattle.rules.specs.Answers.{check, hands, settled, outcome-parsed, outcome, mended}
 use Rattle.rules.specs.Histories.{History, added-by, step, Reached, models, Models, Assumes, Unopposed, Accepts, Answered, SameLiterals, Within, SameClauses}
 use Rattle.rules.specs.declared.Fault.{Fault}
@@ -18,9 +16,9 @@ use Rattle.rules.specs.declared.Check.the-variants.{Passed, Failed}
 use Rattle.rules.specs.declared.Answer.the-variants.{Accepted, Refused}
 use Rattle.rules.proofs.Lists.{all-at, all-of, all-append, all-head, all-tail, any-in, any-find}
 use Rattle.rules.proofs.Literals.{in-holds, holds-in, opposite-false}
-use Rattle.rules.proofs.Held.{meets, clean-all, mend-keeps, mend-other, mend-models}
+use Rattle.rules.proofs.Held.{meets, mend-keeps, mend-other, mend-models}
 use Rattle.rules.proofs.Checks.{then-left, then-right, cleanly-clean, satisfied-models, assumed-assumes}
-use Rattle.rules.proofs.Reaching.{of-reached, moved}
+use Rattle.rules.proofs.Reaching.{of-reached}
 use Rattle.rules.proofs.Sound.{Sound, keeps-sound, begins-sound, decided-sound}
 use Rattle.rules.proofs.Shaped.{shaped}
 use Rattle.rules.proofs.Kept.{terms-kept, begins-terms}
@@ -68,15 +66,17 @@ sat-means h r ws assumed vs a =
     let e = then-right _ _ (then-right _ _ (passed s ws (SAT assumed vs) a)) in
     let q = then-right _ _ e in
     let of-added = mend-to-models h r α (satisfied-models α _ (then-right _ _ q)) in
-    let S = sound h r in
-    (β, handed-over s ws (SAT assumed vs) a,
-    record
-      { of-added = of-added
-      ; of-assumptions = still-assumes s α assumed (cleanly-clean assumed _ (then-left _ _ q)) (assumed-assumes α 2 assumed (then-left _ _ e))
-      ; elsewhere = λ v u. mend-other (s .stack) α v u
-      ; of-held = follow h r β of-added
-      ; mends-to-itself = mend-models (s .stack) β (S .stacked β of-added)
-      })
+    let S = sound h r in (
+      β,
+      handed-over s ws (SAT assumed vs) a,
+      record {
+        of-added = of-added;
+        of-assumptions = still-assumes s α assumed (cleanly-clean assumed _ (then-left _ _ q)) (assumed-assumes α 2 assumed (then-left _ _ e));
+        elsewhere = λ v u. mend-other (s .stack) α v u;
+        of-held = follow h r β of-added;
+        mends-to-itself = mend-models (s .stack) β (S .stacked β of-added);
+      },
+    )
 
 -- ---- UNSAT
 
@@ -97,9 +97,10 @@ unsat-means h r ws assumed hints a α m k =
 
 pub same-models : (h : History) → Reached h → (assumed : List ℤ) → Unopposed (h .state) assumed →
     ((α : Assignment) × Models α (h .added) × Assumes α assumed) ↔ ((α : Assignment) × (models α (h .state .irredundant) ≡ true) × Assumes α assumed)
-same-models h r assumed k =
-    (λ x. (x .0, sound h r .irredundant (x .0) (x .1), x .2),
-    λ x. (mend (x .0) (h .state .stack), sound h r .mends (x .0) (x .1), still-assumes (h .state) (x .0) assumed k (x .2)))
+same-models h r assumed k = (
+  λ x. (x .0, sound h r .irredundant (x .0) (x .1), x .2),
+  λ x. (mend (x .0) (h .state .stack), sound h r .mends (x .0) (x .1), still-assumes (h .state) (x .0) assumed k (x .2)),
+)
 
 -- ---- order-free
 

@@ -1,16 +1,16 @@
 -- How many clauses of an id, how many clauses, how many words, and the order by id, when a clause comes to a place or goes from it.
-use mathlib.Core.Path.{_≡_, refl, sym, _∙_, ap}
-use mathlib.Core.Bool.{Bool, true, false, cond, _&&_, _||_, false≢true}
+use mathlib.Core.Path.{_≡_, refl}
+use mathlib.Core.Bool.{Bool, true, cond, false≢true}
 use mathlib.Core.List.{List, [], _∷_, _++_}
-use Prim.Native.Nat.{ℕ, zero, suc, _+_, _≤_, _<_}
+use Prim.Native.Nat.{ℕ, _+_, _≤_}
 use native.Mathlib.Omega.{arith}
 use lib.Dec.{eqb, ltb}
 use lib.ListN.{length}
-use borrow.Author.Tests.{ltb-true, ltb-false, lt-ltb, eqb-true, eqb-false, eq-eqb, ne-eqb}
+use borrow.Author.Tests.{ltb-true, ltb-false, lt-ltb, eqb-true, eqb-false, eq-eqb}
 use Rattle.rules.specs.Lists.{any, all}
 use Rattle.rules.specs.Terms.{Held, has, fetch, room, tally, rising}
 use Rattle.rules.specs.Frames.{without, place}
-use Rattle.rules.proofs.Lists.{by-cases, and-left, and-right, and-both, all-nil, all-cons, all-head, all-tail, all-at, all-of}
+use Rattle.rules.proofs.Lists.{by-cases, and-left, and-right, and-both, all-nil, all-cons, all-at, all-of}
 use Rattle.rules.proofs.Held.{without-all, place-all}
 
 pub fetch-id : (hs : List Held) (i : ℕ) → has hs i ≡ true → fetch hs i .id ≡ i
@@ -103,12 +103,12 @@ rising-place x (h ∷ hs) n s =
     by-cases (ltb (x .id) (h .id))
     (λ e. rw e (rising-cons x _ (all-cons (later x) _ _ e (all-later x h hs e (t .0))) s))
     (λ e. by-cases (eqb (h .id) (x .id))
-        (λ q. absurd (let z : 1 + tally (x .id) hs ≡ 0 = rw q at n in omega arith))
-        (λ q.
-            let rest : tally (x .id) hs ≡ 0 = omega arith in
-            let before = ltb-false (x .id) (h .id) e in
-            let differ = eqb-false (h .id) (x .id) q in
-            rw e (rising-cons h _ (place-all (later h) x hs (lt-ltb (h .id) (x .id) (omega arith)) (t .0)) (rising-place x hs rest (t .1)))))
+    (λ q. absurd (let z : 1 + tally (x .id) hs ≡ 0 = rw q at n in omega arith))
+    (λ q.
+    let rest : tally (x .id) hs ≡ 0 = omega arith in
+    let before = ltb-false (x .id) (h .id) e in
+    let differ = eqb-false (h .id) (x .id) q in
+    rw e (rising-cons h _ (place-all (later h) x hs (lt-ltb (h .id) (x .id) (omega arith)) (t .0)) (rising-place x hs rest (t .1)))))
 
 pub rising-without : (hs : List Held) (i : ℕ) → rising hs ≡ true → rising (without hs i) ≡ true
 unfolding without

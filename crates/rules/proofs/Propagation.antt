@@ -1,12 +1,12 @@
 -- Propagation is sound, for any allowed set, target and hints; and it stops within its hints.
-use mathlib.Core.Path.{_≡_, refl, sym, _∙_, ap}
-use mathlib.Core.Bool.{Bool, true, false, not, cond, _||_, false≢true}
+use mathlib.Core.Path.{_≡_, refl}
+use mathlib.Core.Bool.{true, false, not, false≢true}
 use mathlib.Core.List.{List, [], _∷_}
 use Prim.Native.Nat.{ℕ, _+_, _≤_}
 use native.Mathlib.Omega.{arith}
 use lib.ListN.{length}
 use lib.IntN.{ℤ, pos, negsuc, negℤ}
-use Rattle.rules.specs.Lists.{any, only}
+use Rattle.rules.specs.Lists.{any}
 use Rattle.rules.specs.Terms.{Literals, same, holds, opposes, Assignment, lit, sat, Held, has, fetch}
 use Rattle.rules.specs.Propagation.{Named, nobody, clause, Allowed, among, named, Reading, conflict, forced, bad, reading, read, judge, Run, also, after, run, proves}
 use Rattle.rules.specs.Histories.{models}

@@ -1,5 +1,5 @@
 -- What holds at every accepted opening and is kept by every accepted frame holds of every history that is reached.
-use mathlib.Core.Path.{_≡_, refl, sym}
+use mathlib.Core.Path.{_≡_, refl}
 use mathlib.Core.List.{List, [], _∷_}
 use Prim.Native.Nat.{ℕ}
 use lib.IntN.{ℤ}
@@ -20,23 +20,23 @@ module _
     (P : History → Type 0)
     (begins : (vars entries words : ℕ) → check-open vars entries words ≡ Passed → P (begun vars entries words))
     (keeps : (h : History) (ws : List ℤ) (f : Frame) → parse ws ≡ framed f → check (h .state) f ≡ Passed → P h → P (moved h f))
-    where
-  one-step : (h : History) (ws : List ℤ) → P h → P (step h ws)
-  unfolding step outcome
-  one-step h ws p = by-parse (parse ws) refl
-    where
-      by-check : (f : Frame) (k : Check) → parse ws ≡ framed f → check (h .state) f ≡ k → P (record { state = settled (h .state) f k .state; added = added-by (settled (h .state) f k .answer) (framed f) (h .added) })
-      by-check f Passed q e = keeps h ws f q e p
-      by-check f (Failed x) q e = p
+  where
+    one-step : (h : History) (ws : List ℤ) → P h → P (step h ws)
+    unfolding step outcome
+    one-step h ws p = by-parse (parse ws) refl
+      where
+        by-check : (f : Frame) (k : Check) → parse ws ≡ framed f → check (h .state) f ≡ k → P (record { state = settled (h .state) f k .state; added = added-by (settled (h .state) f k .answer) (framed f) (h .added) })
+        by-check f Passed q e = keeps h ws f q e p
+        by-check f (Failed x) q e = p
 
-      by-parse : (g : Parsed) → parse ws ≡ g → P (record { state = outcome-parsed (h .state) g .state; added = added-by (outcome-parsed (h .state) g .answer) g (h .added) })
-      by-parse malformed q = p
-      by-parse (framed f) q = by-check f (check (h .state) f) q refl
+        by-parse : (g : Parsed) → parse ws ≡ g → P (record { state = outcome-parsed (h .state) g .state; added = added-by (outcome-parsed (h .state) g .answer) g (h .added) })
+        by-parse malformed q = p
+        by-parse (framed f) q = by-check f (check (h .state) f) q refl
 
-  all-steps : (frames : List (List ℤ)) (h : History) → P h → P (steps h frames)
-  unfolding steps
-  all-steps [] h p = p
-  all-steps (ws ∷ frames) h p = all-steps frames (step h ws) (one-step h ws p)
+    all-steps : (frames : List (List ℤ)) (h : History) → P h → P (steps h frames)
+    unfolding steps
+    all-steps [] h p = p
+    all-steps (ws ∷ frames) h p = all-steps frames (step h ws) (one-step h ws p)
 
-  pub of-reached : (h : History) → Reached h → P h
-  of-reached h r = let q = r .by-frames in rw q (all-steps (r .frames) _ (begins (r .vars) (r .entries) (r .words) (r .accepted)))
+    pub of-reached : (h : History) → Reached h → P h
+    of-reached h r = let q = r .by-frames in rw q (all-steps (r .frames) _ (begins (r .vars) (r .entries) (r .words) (r .accepted)))

@@ -2,10 +2,10 @@
 use mathlib.Core.Bool.{Bool, true, false, not, cond, _&&_, xor}
 use mathlib.Core.List.{List, [], _∷_, _++_, map}
 use Prim.Native.Nat.{ℕ, zero, suc, _+_}
-use lib.Dec.{eqb, ltb, leb}
+use lib.Dec.{ltb, leb}
 use lib.IntN.{ℤ, pos, negsuc, negℤ, natAbs}
 use lib.ListN.{length, take, drop}
-use Rattle.rules.specs.Lists.{any, all, only}
+use Rattle.rules.specs.Lists.{any, only}
 use Rattle.rules.specs.Terms.{Literals, same, in-range, holds, clean, Assignment, upd, lit, sat, Held, State, has, fetch, everything, room}
 use Rattle.rules.specs.Propagation.{Allowed, among, proves}
 use Rattle.rules.specs.Frames.{Frame, ADD, LEARN, FORGET, PROMOTE, DROP, WEAKEN, RESTORE, SAT, UNSAT, Parsed, malformed, framed, parse, number, without, above, needs-group, target, offered, mend, next}

@@ -1,10 +1,9 @@
 -- Document 01, "Sixteen marked outcomes": one list. That the definitions give them is proved in proofs/Outcomes.
 use mathlib.Core.Bool.{cond}
-use mathlib.Core.List.{List, [], _∷_, _++_}
+use mathlib.Core.List.{List, [], _∷_, _++_, map}
 use mathlib.Core.Option.{Option, none, some}
 use Prim.Native.Nat.{ℕ, zero, suc}
 use lib.IntN.{ℤ, pos, negℤ}
-use lib.ListN.{length, drop}
 use Rattle.rules.specs.Terms.{Assignment, State}
 use Rattle.rules.specs.Answers.{numbers, Handed, untouched, mended, outcome, opened}
 
@@ -41,20 +40,23 @@ said s (ws ∷ more) =
 
 -- ---- the outcomes
 
--- what is to be said to the frames, after those before them, from an opening with V = 2,048
+-- what is to be said to the frames, after those before them, which are accepted; from an opening with V = 2,048
 pub record Marked : Type 0 where
   pub before : List (List ℤ)
   pub frames : List (List ℤ)
   pub expected : List Said
-
-abbrev pub answers : Marked → List Said
-answers m = drop (length (m .before)) (said (opened 2048 1024 8192) (m .before ++ m .frames))
 
 abbrev pub says : ℕ → ℕ → Said
 says c d = record { code = c; detail = d; model = none }
 
 abbrev pub models-are : ℕ → List ℕ → Said
 models-are d vs = record { code = 0; detail = d; model = some vs }
+
+abbrev pub answers : Marked → List Said
+answers m = said (opened 2048 1024 8192) (m .before ++ m .frames)
+
+abbrev pub expected-of : Marked → List Said
+expected-of m = map (λ ws. says 0 0) (m .before) ++ m .expected
 
 abbrev pub marked : List (List ℤ) → List (List ℤ) → List Said → Marked
 marked before frames expected = record { before = before; frames = frames; expected = expected }

@@ -1,0 +1,53 @@
+//! Writes a trace of a class and seed, lists the classes, or counts answers.
+
+use second::histogram::Histogram;
+use second::traces::{find_class, CLASSES};
+use std::io::{self, Write};
+use std::process::ExitCode;
+
+const USAGE: &str = "usage: traces CLASS SEED | traces --classes | traces --histogram SEEDS";
+
+fn main() -> ExitCode {
+    let arguments: Vec<String> = std::env::args().skip(1).collect();
+    let arguments: Vec<&str> = arguments.iter().map(String::as_str).collect();
+    let output = match arguments.as_slice() {
+        ["--classes"] => Some(classes()),
+        ["--histogram", seeds] => seeds.parse().ok().map(histogram),
+        [class, seed] => trace(class, seed),
+        _ => None,
+    };
+    match output.map(|bytes| io::stdout().write_all(&bytes)) {
+        Some(Ok(())) => ExitCode::SUCCESS,
+        Some(Err(error)) => {
+            eprintln!("traces: {error}");
+            ExitCode::FAILURE
+        }
+        None => {
+            eprintln!("{USAGE}");
+            ExitCode::FAILURE
+        }
+    }
+}
+
+fn classes() -> Vec<u8> {
+    let lines = CLASSES
+        .iter()
+        .map(|class| format!("{:12} {}\n", class.name, class.about));
+    lines.collect::<String>().into_bytes()
+}
+
+fn trace(class: &str, seed: &str) -> Option<Vec<u8>> {
+    Some(find_class(class)?.trace(seed.parse().ok()?))
+}
+
+/// Operation by code over the first seeds of every class.
+fn histogram(seeds: u64) -> Vec<u8> {
+    let mut histogram = Histogram::default();
+    for class in &CLASSES {
+        for seed in 0..seeds {
+            histogram.count_trace(&class.trace(seed));
+        }
+    }
+    let traces = seeds * CLASSES.len() as u64;
+    format!("{histogram}{traces} traces, {} lines\n", histogram.lines()).into_bytes()
+}

@@ -1,0 +1,267 @@
+//! The judge can fail: checkers that deviate from document 01 in one rule are found out.
+//!
+//! A deviant stands around the true checker. It looks at the state before the step, the frame
+//! and the true answer, and may put another state and answer in their place.
+
+use second::answer::Answer;
+use second::assignment::Assignment;
+use second::checker::{Checker, Checks};
+use second::frame::{Frame, Part};
+use second::frames::sat;
+use second::judge::judge_history;
+use second::propagation::prove;
+use second::search::Clauses;
+use second::state::{Record, State};
+use second::values::Values;
+
+/// The state and answer in place of the true ones.
+type Instead = Option<(State, Answer)>;
+
+type Deviation = fn(&State, Frame<'_>, &Answer) -> Instead;
+
+struct Deviant {
+    checker: Checker,
+    deviation: Deviation,
+}
+
+impl Checks for Deviant {
+    fn step(&mut self, frame: &[i32]) -> Answer {
+        let before = self.checker.state().clone();
+        let answer = self.checker.step(frame);
+        // Wrong counts and literals are refused by every deviant.
+        let (Ok(read), true) = (Frame::read(frame), answer.code != 3) else {
+            return answer;
+        };
+        match (self.deviation)(&before, read, &answer) {
+            Some((state, answer)) => {
+                self.checker = Checker::with_state(state);
+                answer
+            }
+            None => answer,
+        }
+    }
+
+    fn state(&self) -> &State {
+        self.checker.state()
+    }
+}
+
+/// How many of the first histories the judge objects to.
+fn found_out(deviation: Deviation, histories: u64) -> usize {
+    let broken = |seed: &u64| {
+        let deviant = |checker| Deviant { checker, deviation };
+        judge_history(*seed, deviant).broken.is_some()
+    };
+    (0..histories).filter(broken).count()
+}
+
+fn accepted(state: State) -> Instead {
+    Some((state, Answer::accepted()))
+}
+
+fn is_unproved(answer: &Answer) -> bool {
+    matches!(answer.code, 7 | 8)
+}
+
+fn add_without_cleanness(before: &State, frame: Frame<'_>, answer: &Answer) -> Instead {
+    let (Frame::Add { id, clause }, 5) = (frame, answer.code) else {
+        return None;
+    };
+    let mut state = before.clone();
+    state.highest = id;
+    state.irredundant.insert(id, clause.words.to_vec());
+    accepted(state)
+}
+
+fn learn_without_proof(before: &State, frame: Frame<'_>, answer: &Answer) -> Instead {
+    let (Frame::Learn { id, clause, .. }, true) = (frame, is_unproved(answer)) else {
+        return None;
+    };
+    let mut state = before.clone();
+    state.highest = id;
+    state.learned.insert(id, clause.words.to_vec());
+    accepted(state)
+}
+
+fn drop_without_proof(before: &State, frame: Frame<'_>, answer: &Answer) -> Instead {
+    let (Frame::Drop { id, .. }, true) = (frame, is_unproved(answer)) else {
+        return None;
+    };
+    let mut state = before.clone();
+    state.irredundant.remove(&id);
+    accepted(state)
+}
+
+/// Any clause of irredundant and learned, but not the one that leaves.
+fn proved_with_learned(before: &State, id: i32, target: Vec<i32>, hints: Part<'_>) -> bool {
+    let mut values = Values::new(before.vars);
+    let proof = prove(&mut values, target.into_iter(), hints, |hint| {
+        let places = [&before.irredundant, &before.learned];
+        let found = places.iter().find_map(|place| place.get(&hint));
+        found.filter(|_| hint != id).map(Vec::as_slice)
+    });
+    proof.is_ok()
+}
+
+fn drop_leans_on_learned(before: &State, frame: Frame<'_>, answer: &Answer) -> Instead {
+    let (Frame::Drop { id, hints }, 7) = (frame, answer.code) else {
+        return None;
+    };
+    let mut state = before.clone();
+    let clause = state.irredundant.remove(&id)?;
+    proved_with_learned(before, id, clause, hints).then_some(())?;
+    accepted(state)
+}
+
+/// Moves the clause to the stack, as WEAKEN does.
+fn stacked(before: &State, id: i32, witness: Part<'_>) -> Instead {
+    let mut state = before.clone();
+    let clause = state.irredundant.remove(&id)?;
+    state.stack.push(Record {
+        id,
+        clause,
+        witness: witness.words.to_vec(),
+    });
+    accepted(state)
+}
+
+fn weaken_ignores_groups(before: &State, frame: Frame<'_>, answer: &Answer) -> Instead {
+    match (frame, answer.code) {
+        (Frame::Weaken { id, witness, .. }, 7..=9) => stacked(before, id, witness),
+        _ => None,
+    }
+}
+
+fn weaken_leans_on_learned(before: &State, frame: Frame<'_>, answer: &Answer) -> Instead {
+    let (
+        Frame::Weaken {
+            id,
+            witness,
+            groups,
+        },
+        7,
+    ) = (frame, answer.code)
+    else {
+        return None;
+    };
+    let mut rest = groups;
+    while !rest.words.is_empty() {
+        let (header, behind) = rest.split(2)?;
+        let (hints, behind) = behind.split(usize::try_from(header.words[1]).ok()?)?;
+        let mut target = before.irredundant.get(&id)?.clone();
+        let touched = before.irredundant.get(&header.words[0])?.iter();
+        target.extend(touched.filter(|&literal| !witness.words.contains(&-literal)));
+        proved_with_learned(before, id, target, hints).then_some(())?;
+        rest = behind;
+    }
+    stacked(before, id, witness)
+}
+
+fn restore_without_cleanness(before: &State, frame: Frame<'_>, answer: &Answer) -> Instead {
+    let (Frame::Restore { id }, 5) = (frame, answer.code) else {
+        return None;
+    };
+    let mut state = before.clone();
+    let place = state.stack.iter().position(|record| record.id == id)?;
+    let record = state.stack.remove(place);
+    state.irredundant.insert(id, record.clause);
+    accepted(state)
+}
+
+/// The answer the true checker gives to SAT in another state.
+fn sat_in(state: State, assumptions: &[i32], true_variables: Part<'_>) -> Answer {
+    Checker::with_state(state).step(&sat(assumptions, true_variables.words))
+}
+
+fn assume_without_cleanness(before: &State, frame: Frame<'_>, answer: &Answer) -> Instead {
+    match (frame, answer.code) {
+        (Frame::Sat { true_variables, .. }, 5) => {
+            let answer = sat_in(before.clone(), &[], true_variables);
+            Some((before.clone(), answer))
+        }
+        _ => None,
+    }
+}
+
+fn walk_upward(before: &State, frame: Frame<'_>, answer: &Answer) -> Instead {
+    match (frame, answer.code) {
+        (Frame::Sat { true_variables, .. }, 0) => {
+            let mut upside_down = before.clone();
+            upside_down.stack.reverse();
+            let answer = sat_in(upside_down, &[], true_variables);
+            Some((before.clone(), answer))
+        }
+        _ => None,
+    }
+}
+
+fn copy_the_offered_model(before: &State, frame: Frame<'_>, answer: &Answer) -> Instead {
+    match (frame, answer.code) {
+        (Frame::Sat { true_variables, .. }, 0) => {
+            let answer = Answer::mended(0, true_variables.words.to_vec());
+            Some((before.clone(), answer))
+        }
+        _ => None,
+    }
+}
+
+fn sat_without_clauses(before: &State, frame: Frame<'_>, answer: &Answer) -> Instead {
+    match (frame, answer.code) {
+        (Frame::Sat { true_variables, .. }, 10) => {
+            let model = Assignment::new(before.vars, true_variables.words).true_variables();
+            Some((before.clone(), Answer::mended(0, model)))
+        }
+        _ => None,
+    }
+}
+
+fn unsat_without_proof(before: &State, frame: Frame<'_>, answer: &Answer) -> Instead {
+    let (Frame::Unsat { .. }, true) = (frame, is_unproved(answer)) else {
+        return None;
+    };
+    accepted(before.clone())
+}
+
+/// "Dropping a stacked record because the irredundant clauses imply it."
+fn drop_implied_records(before: &State, frame: Frame<'_>, answer: &Answer) -> Instead {
+    let (Frame::Sat { true_variables, .. }, 0) = (frame, answer.code) else {
+        return None;
+    };
+    let mut state = before.clone();
+    let irredundant = Clauses::new(before.vars).and(&before.irredundant);
+    state
+        .stack
+        .retain(|record| irredundant.find_hints(&record.clause, 0).is_none());
+    let answer = sat_in(state.clone(), &[], true_variables);
+    Some((state, answer))
+}
+
+const DEVIATIONS: [(&str, Deviation); 13] = [
+    ("ADD without cleanness", add_without_cleanness),
+    ("LEARN without proof", learn_without_proof),
+    ("DROP without proof", drop_without_proof),
+    ("DROP leans on learned", drop_leans_on_learned),
+    ("WEAKEN ignores groups", weaken_ignores_groups),
+    ("WEAKEN leans on learned", weaken_leans_on_learned),
+    ("RESTORE without cleanness", restore_without_cleanness),
+    ("assumptions without cleanness", assume_without_cleanness),
+    ("walk upward", walk_upward),
+    ("the offered model copied", copy_the_offered_model),
+    ("SAT without clauses", sat_without_clauses),
+    ("UNSAT without proof", unsat_without_proof),
+    ("implied records dropped", drop_implied_records),
+];
+
+#[test]
+fn every_deviant_is_found_out() {
+    for (name, deviation) in DEVIATIONS {
+        let found = found_out(deviation, 2_000);
+        println!("{name}: found out in {found} of 2000 histories");
+        assert!(found > 0, "{name} is not found out");
+    }
+}
+
+#[test]
+fn the_true_checker_is_not() {
+    assert_eq!(found_out(|_, _, _| None, 2_000), 0);
+}
