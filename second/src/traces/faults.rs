@@ -153,13 +153,14 @@ pub fn places(author: &mut Author<'_>) {
             .copied();
         let mut ids: Vec<i32> = held.chain(stacked).collect();
         ids.push(random.between(1, state.highest as usize + 1) as i32);
+        let near = ids[random.below(ids.len())];
         ids.push(i32::MAX);
         let id = ids[random.below(ids.len())];
         let hint = ids[random.below(ids.len())];
         let literal = random.literals(6, 1);
         let frame = match random.below(8) {
-            0 => add(id.min(i32::MAX - 1), &literal),
-            1 => learn(id.min(i32::MAX - 1), &literal, &[hint]),
+            0 => add(near, &literal),
+            1 => learn(near, &literal, &[hint]),
             2 => forget(id),
             3 => promote(id),
             4 => drop_clause(id, &[hint]),
