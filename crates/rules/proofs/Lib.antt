@@ -2,3 +2,13 @@
 pub mod Lists
 pub mod Literals
 pub mod Held
+pub mod Propagation
+pub mod Checks
+pub mod Reaching
+pub mod Sound
+pub mod Places
+pub mod Shaped
+pub mod Kept
+pub mod Meaning
+pub mod Theorems
+pub mod Outcomes

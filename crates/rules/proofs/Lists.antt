@@ -125,3 +125,8 @@ module _ {A : Type 0} where
     all-index [] i d h a = absurd (not-suc-le-zero h)
     all-index (x ∷ xs) zero d h a = all-head x xs a
     all-index (x ∷ xs) (suc i) d h a = all-index xs i d (le-of-suc-le-suc h) (all-tail x xs a)
+
+    pub all-split : (xs ys : List A) → all p (xs ++ ys) ≡ true → (all p xs ≡ true) × (all p ys ≡ true)
+    unfolding all
+    all-split [] ys h = (refl, h)
+    all-split (x ∷ xs) ys h = let r = all-split xs ys (and-right (p x) (all p (xs ++ ys)) h) in (and-both (and-left (p x) (all p (xs ++ ys)) h) (r .0), r .1)

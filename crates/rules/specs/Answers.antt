@@ -39,11 +39,11 @@ numbers (Refused NoWords) = (13, 0)
 -- ---- checks in order: the first that fails decides
 
 infixr 20 _then_
-abbrev pub _then_ : Check → Check → Check
+unfoldable pub _then_ : Check → Check → Check
 Passed then b = b
 Failed f then b = Failed f
 
-abbrev pub need : Bool → Fault → Check
+unfoldable pub need : Bool → Fault → Check
 need true f = Passed
 need false f = Failed f
 

@@ -26,7 +26,7 @@ pub data Parsed : Type 0 where
   malformed : Parsed
   framed : Frame → Parsed
 
-abbrev pub framed-if : Bool → Frame → Parsed
+unfoldable pub framed-if : Bool → Frame → Parsed
 framed-if true f = framed f
 framed-if false f = malformed
 

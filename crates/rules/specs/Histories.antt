@@ -5,8 +5,8 @@ use mathlib.Core.List.{List, [], _∷_, List·Memᴰ}
 use Prim.Native.Nat.{ℕ}
 use lib.IntN.{ℤ}
 use Rattle.rules.specs.Lists.{any, all}
-use Rattle.rules.specs.Terms.{Assignment, lit, sat, holds, mentions, Held, State}
-use Rattle.rules.specs.Frames.{Frame, ADD, LEARN, FORGET, PROMOTE, DROP, WEAKEN, RESTORE, SAT, UNSAT, Parsed, malformed, framed, parse}
+use Rattle.rules.specs.Terms.{Assignment, lit, sat, holds, mentions, clean, Held, State, everything}
+use Rattle.rules.specs.Frames.{Frame, ADD, LEARN, FORGET, PROMOTE, DROP, WEAKEN, RESTORE, SAT, UNSAT, Parsed, malformed, framed, parse, mend}
 use Rattle.rules.specs.Answers.{outcome, check-open, opened}
 use Rattle.rules.specs.declared.Check.the-variants.{Passed}
 use Rattle.rules.specs.declared.Answer.{Answer}
@@ -69,6 +69,26 @@ Assumes α assumed = all (lit α) assumed ≡ true
 -- v is no variable of a stacked witness
 abbrev pub Unwitnessed : State → ℕ → Type 0
 Unwitnessed s v = any (λ r. mentions (r .witness) v) (s .stack) ≡ false
+
+-- no assumption is the opposite of a stacked witness literal
+abbrev pub Unopposed : State → List ℤ → Type 0
+Unopposed s assumed = all (λ r. clean assumed (r .witness)) (s .stack) ≡ true
+
+-- ---- answers
+
+-- the words are this frame, and it is accepted
+pub record Accepts (s : State) (ws : List ℤ) (f : Frame) : Type 0 where
+  pub parsed : parse ws ≡ framed f
+  pub changed : ℕ
+  pub accepted : outcome s ws .answer ≡ Accepted changed
+
+-- what β, handed out for the offered α, is to be
+pub record Answered (h : History) (assumed : List ℤ) (α β : Assignment) : Type 0 where
+  pub of-added : Models β (h .added)
+  pub of-assumptions : Assumes β assumed
+  pub elsewhere : (v : ℕ) → Unwitnessed (h .state) v → β v ≡ α v
+  pub of-held : models β (everything (h .state)) ≡ true
+  pub mends-to-itself : mend β (h .state .stack) ≡ β
 
 -- ---- the same set
 

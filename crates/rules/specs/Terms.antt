@@ -113,7 +113,7 @@ unfoldable pub room : List Held → ℕ
 room [] = 0
 room (h ∷ hs) = length (h .lits) + length (h .witness) + room hs
 
--- ---- what makes a state one
+-- ---- what a state obeys
 
 abbrev pub null : List ℤ → Bool
 null [] = true
@@ -129,14 +129,25 @@ unfoldable pub rising : List Held → Bool
 rising [] = true
 rising (h ∷ hs) = all (λ x. ltb (h .id) (x .id)) hs && rising hs
 
--- "held ids are distinct, positive and not above the highest accepted, every clause and witness obeys Terms within V, only stacked clauses have witnesses", and all is within the lent sizes
+-- "positive and not above the highest accepted"
+unfoldable pub is-id : ℕ → Held → Bool
+is-id highest h = ltb 0 (h .id) && leb (h .id) highest
+
+-- "every clause and witness obeys Terms within V, only stacked clauses have witnesses": a clause that is not stacked, and a record
+unfoldable pub is-plain : ℕ → Held → Bool
+is-plain vars h = is-clause vars (h .lits) && null (h .witness)
+
+unfoldable pub is-record : ℕ → Held → Bool
+is-record vars r = is-clause vars (r .lits) && is-witness vars (r .lits) (r .witness)
+
+-- what makes a state one; the places are in order besides, and all is within the lent sizes
 pub record Terms (s : State) : Type 0 where
   pub vars-in-range : (ltb 0 (s .vars) && leb (s .vars) 2048) ≡ true
   pub ids-distinct : (i : ℕ) → tally i (everything s) ≤ 1
-  pub ids-in-range : all (λ h. ltb 0 (h .id) && leb (h .id) (s .highest)) (everything s) ≡ true
-  pub clauses : all (λ h. is-clause (s .vars) (h .lits)) (everything s) ≡ true
-  pub records : all (λ r. is-witness (s .vars) (r .lits) (r .witness)) (s .stack) ≡ true
-  pub plain : all (λ h. null (h .witness)) (s .irredundant ++ s .learned) ≡ true
+  pub ids-in-range : all (is-id (s .highest)) (everything s) ≡ true
+  pub irredundant : all (is-plain (s .vars)) (s .irredundant) ≡ true
+  pub learned : all (is-plain (s .vars)) (s .learned) ≡ true
+  pub stack : all (is-record (s .vars)) (s .stack) ≡ true
   pub irredundant-rising : rising (s .irredundant) ≡ true
   pub learned-rising : rising (s .learned) ≡ true
   pub within-entries : length (everything s) ≤ s .entries
