@@ -1,6 +1,6 @@
 -- Laws of signed words. A local holds the bits of a number: they read back as the number.
 use mathlib.Core.Path.{_≡_, refl, sym, _∙_, ap}
-use mathlib.Core.Bool.{Bool, true, false, true≢false, false≢true}
+use mathlib.Core.Bool.{true, false, true≢false, false≢true}
 use Prim.Native.Nat.{ℕ, zero, suc, _-_, _≤_, _<_}
 use native.Mathlib.Omega.{arith}
 use lib.IntN.{ℤ, pos, negsuc, natAbs, negℤ, _-ℤ_, +ℤ-idl}
@@ -85,6 +85,10 @@ module _ (x : ℤ) (f : SFits w32 x) (h : natAbs x ≤ 2048) where
       rw minus-is (rw q tt, rw natAbs-neg h)
 
 -- ---- a word in a local
+
+-- what a call said of the bits, it said of the word
+pub said : {A : Type 0} (P : ℤ → A) {l : ℤ} {r : A} → SFits w32 l → r ≡ P (back l) → r ≡ P l
+said P f e = e ∙ ap P (toZ-ofZ f)
 
 -- a word is 0 where its bits are
 pub zero-bits : (n : ℕ) → toZ w32 n ≡ pos 0 → n ≡ 0

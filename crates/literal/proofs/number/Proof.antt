@@ -1,4 +1,4 @@
-use mathlib.Core.Path.{ap, _∙_, sym}
+use mathlib.Core.Path.{ap, sym}
 use native.Mathlib.Omega.{arith}
 use mir.Facts.{toZ-ofZ}
 use Rattle.rules.specs.Frames.{number}
