@@ -1,6 +1,7 @@
 -- Laws of signed words. A local holds the bits of a number: they read back as the number.
 use mathlib.Core.Path.{_≡_, refl, sym, _∙_, ap}
 use mathlib.Core.Bool.{true, false, true≢false, false≢true}
+use mathlib.Core.List.{List}
 use Prim.Native.Nat.{ℕ, zero, suc, _-_, _≤_, _<_}
 use native.Mathlib.Omega.{arith}
 use lib.IntN.{ℤ, pos, negsuc, natAbs, negℤ, _-ℤ_, +ℤ-idl}
@@ -10,8 +11,9 @@ use mir.Syntax.{w32}
 use mir.Val.{SFits, toZ, ofZ}
 use mir.Facts.{toZ-ofZ}
 use borrow.Author.Tests.{ltb-true, ltb-false, lt-ltb, le-ltb, le-leb}
+use Rattle.rules.specs.Lists.{all}
 use Rattle.rules.specs.Terms.{in-range}
-use Rattle.rules.proofs.Lists.{by-cases}
+use Rattle.rules.proofs.Lists.{by-cases, all-at, all-of}
 use Rattle.literal.specs.Signs.{is-pos}
 
 -- what the bits of x read back as
@@ -30,6 +32,9 @@ pub wider : (vars : ℕ) (l : ℤ) → vars ≤ 2048 → in-range vars l ≡ tru
 wider vars (pos zero) h e = e
 wider vars (pos (suc n)) h e = lt-ltb n 2048 (omega (arith, ltb-true n vars e))
 wider vars (negsuc n) h e = lt-ltb n 2048 (omega (arith, ltb-true n vars e))
+
+pub all-wider : (vars : ℕ) (c : List ℤ) → vars ≤ 2048 → all (in-range vars) c ≡ true → all (in-range 2048) c ≡ true
+all-wider vars c h a = all-of (in-range 2048) c (λ l m. wider vars l h (all-at (in-range vars) a m))
 
 -- the opposite is a literal too
 pub opposite-in : (vars : ℕ) (l : ℤ) → in-range vars l ≡ true → in-range vars (negℤ l) ≡ true

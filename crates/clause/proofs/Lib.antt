@@ -1,0 +1,3 @@
+pub mod Scan
+pub mod Faults
+pub mod Clean
