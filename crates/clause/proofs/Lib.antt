@@ -1,3 +1,3 @@
-pub mod Scan
+pub mod Reading
 pub mod Faults
 pub mod Clean

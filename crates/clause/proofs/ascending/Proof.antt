@@ -1,3 +1,4 @@
+-- Invariant: the whole check is the check of the words left, above the last variable.
 use mathlib.Core.Path.{_≡_, sym, _∙_, ap}
 use mathlib.Core.Bool.{true}
 use Prim.Native.Nat.{_+_, _≤_, _<_, _-_}

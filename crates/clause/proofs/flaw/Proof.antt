@@ -1,3 +1,4 @@
+-- Invariant: the whole check is the check of the words left, with the variables seen so far.
 use mathlib.Core.Path.{_≡_, sym, _∙_, ap}
 use mathlib.Core.Bool.{true}
 use Prim.Native.Nat.{ℕ, _+_, _≤_, _<_, _-_}
@@ -7,11 +8,10 @@ use lib.IntN.{ℤ, pos, natAbs}
 use lib.ListN.{length, getD, drop}
 use mir.Syntax.{w32}
 use mir.Val.{SFits}
-use mir.Facts.{toZ-ofZ}
 use Rattle.rules.specs.Terms.{in-range, upd}
 use Rattle.rules.specs.Answers.{flaw, unseen}
 use Rattle.rules.proofs.Lists.{not-true, not-false}
-use Rattle.literal.proofs.Signed.{sized, wider, said}
+use Rattle.literal.proofs.Signed.{wider, variable-asked, variable-bounds, said}
 use Rattle.words.specs.Words.{assigned}
 use Rattle.words.proofs.Assigned.{zeros-unset}
 use Rattle.clause.proofs.Faults.{flaws, faulty, sound-on, all-sound}
@@ -49,8 +49,8 @@ module _ (c : tie.Else1 Inv-loop μ-loop) where
   in-the-range : in-range (at at-l .before .args .vars) (l at-l) ≡ true
   in-the-range = range-is (c .before) ∙ not-false (c .if1 .left)
 
-  bounds : (1 ≤ natAbs (l at-l)) × (natAbs (l at-l) ≤ 2048)
-  bounds = sized (l at-l) (wider _ (l at-l) (at at-l .before .pre .0) in-the-range)
+  ranged : in-range 2048 (l at-l) ≡ true
+  ranged = wider _ (l at-l) (at at-l .before .pre .0) in-the-range
 
 variable-is : (c : tie.After-variable Inv-loop μ-loop) → c .variable .result ≡ natAbs (l (at-l (c .before)))
 variable-is c = said natAbs (fits (at-l (c .before))) (c .variable .ensures)
@@ -82,10 +82,10 @@ returns : tie.Need-returns Inv-loop μ-loop
 returns c = let x = c .before .before in faulty (flaws _) _ _ _ _ _ (at x .loop .inv .1) (below x) (let e = range-is (c .before) ∙ not-true (c .if1 .taken) in rw e)
 
 variable-requires : tie.Need-variable-requires Inv-loop μ-loop
-variable-requires c κs = rw (toZ-ofZ (fits (at-l c))) (bounds c .1)
+variable-requires c κs = variable-asked (fits (at-l c)) (ranged c)
 
 value-requires : tie.Need-value-requires Inv-loop μ-loop
-value-requires c κs = rw (variable-is (c .before)) (bounds (c .before .before))
+value-requires c κs = let e = c .before .before in variable-bounds (fits (at-l e)) (ranged e) (c .before .variable .ensures)
 
 returns-2 : tie.Need-returns-2 Inv-loop μ-loop
 returns-2 c =
@@ -95,7 +95,7 @@ returns-2 c =
     faulty (flaws _) _ _ _ _ _ (at x .loop .inv .1) (below x) (rw (in-the-range (v .before), s))
 
 assign-requires : tie.Need-assign-requires Inv-loop μ-loop
-assign-requires c κs = let v = at-variable (c .before) in rw (variable-is v) (bounds (v .before))
+assign-requires c κs = let v = at-variable (c .before) in variable-bounds (fits (at-l (v .before))) (ranged (v .before)) (v .variable .ensures)
 
 add-i : tie.Need-add-i Inv-loop μ-loop
 add-i c = search needs

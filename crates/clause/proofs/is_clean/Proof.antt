@@ -1,3 +1,4 @@
+-- The marks are the clause, so the scan of the witness is cleanness read from its side.
 use mathlib.Core.Path.{_∙_, ap, sym}
 use mathlib.Core.Bool.{not}
 use borrow.Author.Needs.{needs}

@@ -1,3 +1,4 @@
+-- Invariant: the literals of the list are those in the set and those left.
 use mathlib.Core.Path.{_≡_}
 use Prim.Native.Nat.{_≤_, _<_, _-_}
 use borrow.Author.Needs.{needs}
@@ -9,7 +10,7 @@ use Rattle.rules.specs.Terms.{holds}
 use Rattle.rules.specs.Propagation.{also}
 use Rattle.literal.proofs.Signed.{said}
 use Rattle.words.specs.Words.{set-of}
-use Rattle.clause.proofs.Scan.{read-in, with-all, none-marked, marked, all-marked}
+use Rattle.clause.proofs.Reading.{read-in, with-all, none-marked, marked, all-marked}
 use Rattle.clause.proofs.mark.Statement.{statement}
 use Rattle.clause.proofs.mark.Tie as tie
 

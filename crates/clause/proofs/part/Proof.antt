@@ -1,3 +1,4 @@
+-- From start to start + n are n positions.
 use native.Mathlib.Nat.{add-sub-cancel-left}
 use borrow.Author.Needs.{needs}
 use Rattle.clause.proofs.part.Statement.{statement}

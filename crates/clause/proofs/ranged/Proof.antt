@@ -1,3 +1,4 @@
+-- Invariant: the whole check is the check of the words left.
 use mathlib.Core.Path.{_≡_, refl, sym, _∙_}
 use Prim.Native.Nat.{_+_, _≤_, _<_, _-_}
 use native.Mathlib.Nat.{add-zero}

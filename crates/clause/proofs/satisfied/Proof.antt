@@ -1,3 +1,4 @@
+-- Invariant: no literal passed is true, so the rest decides.
 use mathlib.Core.Path.{_≡_, refl, sym, _∙_}
 use Prim.Native.Nat.{_≤_, _<_, _-_}
 use borrow.Author.Needs.{needs}
@@ -9,7 +10,7 @@ use Rattle.rules.specs.Lists.{any}
 use Rattle.rules.specs.Terms.{lit}
 use Rattle.literal.proofs.Signed.{said}
 use Rattle.words.specs.Words.{assigned}
-use Rattle.clause.proofs.Scan.{read-in, found, passed, none-found}
+use Rattle.clause.proofs.Reading.{read-in, found, passed, none-found}
 use Rattle.clause.proofs.satisfied.Statement.{statement}
 use Rattle.clause.proofs.satisfied.Tie as tie
 

@@ -1,3 +1,4 @@
+-- Invariant: no literal passed is in the set, so the rest decides.
 use mathlib.Core.Path.{_≡_, refl, sym, _∙_}
 use Prim.Native.Nat.{_≤_, _<_, _-_}
 use borrow.Author.Needs.{needs}
@@ -8,7 +9,7 @@ use mir.Val.{SFits}
 use Rattle.rules.specs.Lists.{any}
 use Rattle.literal.proofs.Signed.{said}
 use Rattle.words.specs.Words.{set-of}
-use Rattle.clause.proofs.Scan.{read-in, found, passed, none-found}
+use Rattle.clause.proofs.Reading.{read-in, found, passed, none-found}
 use Rattle.clause.proofs.shares.Statement.{statement}
 use Rattle.clause.proofs.shares.Tie as tie
 
