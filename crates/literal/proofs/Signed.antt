@@ -1,17 +1,20 @@
 -- Laws of signed words. A local holds the bits of a number: they read back as the number.
 use mathlib.Core.Path.{_≡_, refl, sym, _∙_, ap}
 use mathlib.Core.Bool.{true, false, true≢false, false≢true}
-use Prim.Native.Nat.{ℕ, zero, suc, _-_, _≤_, _<_}
+use mathlib.Core.List.{List}
+use Prim.Native.Nat.{ℕ, zero, suc, _-_, _^_, _≤_, _<_}
 use native.Mathlib.Omega.{arith}
 use lib.IntN.{ℤ, pos, negsuc, natAbs, negℤ, _-ℤ_, +ℤ-idl}
 use lib.Signed.{mag, ltZ, leZ, nonNeg}
 use lib.Dec.{T, leb, ltb}
-use mir.Syntax.{w32}
-use mir.Val.{SFits, toZ, ofZ}
+use mir.Syntax.{Width, w32}
+use mir.Val.{SFits, Fits, bits, toZ, ofZ}
 use mir.Facts.{toZ-ofZ}
+use borrow.Author.Needs.{fits-under}
 use borrow.Author.Tests.{ltb-true, ltb-false, lt-ltb, le-ltb, le-leb}
+use Rattle.rules.specs.Lists.{all}
 use Rattle.rules.specs.Terms.{in-range}
-use Rattle.rules.proofs.Lists.{by-cases}
+use Rattle.rules.proofs.Lists.{by-cases, all-at, all-of}
 use Rattle.literal.specs.Signs.{is-pos}
 
 -- what the bits of x read back as
@@ -30,6 +33,9 @@ pub wider : (vars : ℕ) (l : ℤ) → vars ≤ 2048 → in-range vars l ≡ tru
 wider vars (pos zero) h e = e
 wider vars (pos (suc n)) h e = lt-ltb n 2048 (omega (arith, ltb-true n vars e))
 wider vars (negsuc n) h e = lt-ltb n 2048 (omega (arith, ltb-true n vars e))
+
+pub all-wider : (vars : ℕ) (c : List ℤ) → vars ≤ 2048 → all (in-range vars) c ≡ true → all (in-range 2048) c ≡ true
+all-wider vars c h a = all-of (in-range 2048) c (λ l m. wider vars l h (all-at (in-range vars) a m))
 
 -- the opposite is a literal too
 pub opposite-in : (vars : ℕ) (l : ℤ) → in-range vars l ≡ true → in-range vars (negℤ l) ≡ true
@@ -51,12 +57,16 @@ pub negative : (x : ℤ) → leZ (pos 0) x ≡ false → (n : ℕ) × (x ≡ neg
 negative (pos n) e = absurd (true≢false (sym (sign (pos n)) ∙ e))
 negative (negsuc n) e = (n, refl)
 
--- a word that is not negative is an unsigned number
-pub unsigned : (x : ℤ) → SFits w32 x → leZ (pos 0) (back x) ≡ true → T (nonNeg (back x)) × (natAbs (back x) ≤ 2147483647)
-unsigned x f e =
-    let b = toZ-ofZ f in
-    let q = not-negative x (rw b at e) in
-    rw b (rw (← q) tt, omega (arith, ap mag q, f .sfits))
+-- a word that is not negative is an unsigned number, of 31 bits
+module _ (x : ℤ) (f : SFits w32 x) (e : leZ (pos 0) (back x) ≡ true) where
+  pub unsigned : T (nonNeg (back x)) × (natAbs (back x) ≤ 2147483647)
+  unsigned =
+      let b = toZ-ofZ f in
+      let q = not-negative x (rw b at e) in
+      rw b (rw (← q) tt, omega (arith, ap mag q, f .sfits))
+
+  pub unsigned-fits : (w : Width) → T (leb 2147483648 (2 ^ bits w)) → T (nonNeg (back x)) × Fits w (natAbs (back x))
+  unsigned-fits w t = (unsigned .0, fits-under w (natAbs (back x)) 2147483648 (omega (arith, unsigned .1)) t)
 
 -- ---- negation
 
@@ -85,6 +95,13 @@ module _ (x : ℤ) (f : SFits w32 x) (h : natAbs x ≤ 2048) where
       rw minus-is (rw q tt, rw natAbs-neg h)
 
 -- ---- a word in a local
+
+-- what `variable` asks, and gives
+pub variable-asked : {l : ℤ} → SFits w32 l → in-range 2048 l ≡ true → natAbs (back l) ≤ 2048
+variable-asked {l} f h = rw (toZ-ofZ f) (sized l h .1)
+
+pub variable-bounds : {l : ℤ} {v : ℕ} → SFits w32 l → in-range 2048 l ≡ true → v ≡ natAbs (back l) → (1 ≤ v) × (v ≤ 2048)
+variable-bounds {l} f h e = rw (e, toZ-ofZ f) (sized l h)
 
 -- what a call said of the bits, it said of the word
 pub said : {A : Type 0} (P : ℤ → A) {l : ℤ} {r : A} → SFits w32 l → r ≡ P (back l) → r ≡ P l

@@ -1,3 +1,4 @@
+-- A word past 2,048 on either side is past V; of the others the variable decides.
 use mathlib.Core.Path.{ap, _∙_}
 use native.Mathlib.Omega.{arith}
 use lib.IntN.{natAbs}

@@ -1,3 +1,4 @@
+-- The test against 0 is the sign.
 use mir.Facts.{toZ-ofZ}
 use Rattle.literal.proofs.Signed.{sign}
 use Rattle.literal.proofs.is_positive.Statement.{statement}

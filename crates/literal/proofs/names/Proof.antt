@@ -1,16 +1,15 @@
+-- A word that is not negative names its own number, a negative one nothing.
 use mathlib.Core.Path.{ap, sym}
-use native.Mathlib.Omega.{arith}
 use lib.IntN.{ℤ, pos}
+use mir.Syntax.{w32}
 use mir.Facts.{toZ-ofZ}
 use Rattle.rules.specs.Terms.{same}
-use Rattle.literal.proofs.Signed.{not-negative, negative, unsigned}
+use Rattle.literal.proofs.Signed.{not-negative, negative, unsigned-fits}
 use Rattle.literal.proofs.names.Statement.{statement}
 use Rattle.literal.proofs.names.Tie as tie
 
 cast-result : tie.Need-cast-result
-cast-result c =
-    let k = unsigned (c .before .args .x) (c .before .fits .x) (c .if1 .taken) in
-    (k .0, record { fits = omega (arith, k .1) })
+cast-result c = unsigned-fits (c .before .args .x) (c .before .fits .x) (c .if1 .taken) w32 tt
 
 returns : tie.Need-returns
 returns c =

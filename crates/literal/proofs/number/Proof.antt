@@ -1,15 +1,15 @@
+-- A word that is not negative is its own number.
 use mathlib.Core.Path.{ap, sym}
 use native.Mathlib.Omega.{arith}
+use mir.Syntax.{w64}
 use mir.Facts.{toZ-ofZ}
 use Rattle.rules.specs.Frames.{number}
-use Rattle.literal.proofs.Signed.{not-negative, negative, unsigned}
+use Rattle.literal.proofs.Signed.{not-negative, negative, unsigned, unsigned-fits}
 use Rattle.literal.proofs.number.Statement.{statement}
 use Rattle.literal.proofs.number.Tie as tie
 
 cast-result : tie.Need-cast-result
-cast-result c =
-    let k = unsigned (c .before .args .x) (c .before .fits .x) (c .if1 .taken) in
-    (k .0, record { fits = omega (arith, k .1) })
+cast-result c = unsigned-fits (c .before .args .x) (c .before .fits .x) (c .if1 .taken) w64 tt
 
 returns : tie.Need-returns
 returns c =

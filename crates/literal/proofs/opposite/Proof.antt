@@ -1,3 +1,4 @@
+-- A literal is small, so its negation fits, and reads back as the opposite.
 use Rattle.literal.proofs.Signed.{sized, minus-fits, minus-is}
 use Rattle.literal.proofs.opposite.Statement.{statement}
 use Rattle.literal.proofs.opposite.Tie as tie

@@ -1,15 +1,15 @@
+-- A word that is not negative is its own size; the negation of one that is fits, since the word is small.
 use mathlib.Core.Path.{ap, _∙_}
 use native.Mathlib.Omega.{arith}
 use borrow.Author.Needs.{needs}
 use lib.IntN.{natAbs}
-use Rattle.literal.proofs.Signed.{unsigned, natAbs-neg, minus-fits, minus-is, minus-positive}
+use mir.Syntax.{w64}
+use Rattle.literal.proofs.Signed.{unsigned-fits, natAbs-neg, minus-fits, minus-is, minus-positive}
 use Rattle.literal.proofs.variable.Statement.{statement}
 use Rattle.literal.proofs.variable.Tie as tie
 
 cast-result : tie.Need-cast-result
-cast-result c =
-    let k = unsigned (c .before .args .l) (c .before .fits .l) (c .if1 .taken) in
-    (k .0, record { fits = omega (arith, k .1) })
+cast-result c = unsigned-fits (c .before .args .l) (c .before .fits .l) (c .if1 .taken) w64 tt
 
 sub-result : tie.Need-sub-result
 sub-result c = minus-fits _ (c .before .fits .l) (c .before .pre)

@@ -1,3 +1,4 @@
+-- Either the variable has the value already, or its bit alone is turned over.
 use mathlib.Core.Path.{sym, _∙_, ap}
 use mathlib.Core.Bool.{not}
 use borrow.Author.Needs.{needs}

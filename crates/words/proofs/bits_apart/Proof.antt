@@ -1,3 +1,4 @@
+-- The ones of a word are its bits that are set.
 use Prim.Native.Nat.{_<_, _^_}
 use native.Mathlib.Omega.{arith}
 use lib.Bits.{bitXor, xor-lt}

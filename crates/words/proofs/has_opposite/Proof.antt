@@ -1,3 +1,4 @@
+-- The arrays changed over are the set of the opposites.
 use mathlib.Core.Path.{_∙_, ap}
 use borrow.Author.Needs.{needs}
 use Rattle.literal.proofs.Signed.{said}

@@ -1,20 +1,20 @@
+-- A literal is true where its variable has its sign.
 use mathlib.Core.Path.{_∙_, ap, ap₂}
 use mathlib.Core.Bool.{Bool·beq}
 use borrow.Author.Needs.{needs}
 use lib.IntN.{natAbs}
-use mir.Facts.{toZ-ofZ}
 use Rattle.literal.specs.Signs.{is-pos}
-use Rattle.literal.proofs.Signed.{sized, said}
+use Rattle.literal.proofs.Signed.{variable-asked, variable-bounds, said}
 use Rattle.words.specs.Words.{assigned}
 use Rattle.words.proofs.Sets.{lit-by-sign}
 use Rattle.words.proofs.is_true.Statement.{statement}
 use Rattle.words.proofs.is_true.Tie as tie
 
 variable-requires : tie.Need-variable-requires
-variable-requires c κs = rw (toZ-ofZ (c .fits .l)) (sized (c .args .l) (c .pre) .1)
+variable-requires c κs = variable-asked (c .fits .l) (c .pre)
 
 value-requires : tie.Need-value-requires
-value-requires c κs = let s = c .before in rw (said natAbs (s .fits .l) (c .variable .ensures)) (sized (s .args .l) (s .pre))
+value-requires c κs = variable-bounds (c .before .fits .l) (c .before .pre) (c .variable .ensures)
 
 is-positive-requires : tie.Need-is-positive-requires
 is-positive-requires c κs = search needs

@@ -1,3 +1,4 @@
+-- Invariant: the literals that are left, made true from here, give the whole.
 use mathlib.Core.Path.{_≡_, refl, _∙_, ap₂}
 use mathlib.Core.Bool.{true}
 use mathlib.Core.List.{List}
@@ -7,12 +8,11 @@ use lib.IntN.{ℤ, pos, natAbs}
 use lib.ListN.{length, getD, drop}
 use mir.Syntax.{w32}
 use mir.Val.{SFits}
-use mir.Facts.{toZ-ofZ}
 use Rattle.rules.specs.Terms.{in-range, upd}
 use Rattle.rules.specs.Frames.{make}
 use Rattle.rules.proofs.Lists.{all-index}
 use Rattle.literal.specs.Signs.{is-pos}
-use Rattle.literal.proofs.Signed.{sized, said}
+use Rattle.literal.proofs.Signed.{variable-asked, variable-bounds, said}
 use Rattle.words.specs.Words.{assigned}
 use Rattle.words.proofs.Made.{made-on, made-end}
 use Rattle.words.proofs.make_true.Statement.{statement}
@@ -54,13 +54,13 @@ shared-slice-copy-out-l : tie.Need-shared-slice-copy-out-l Inv-loop μ-loop
 shared-slice-copy-out-l c = search needs
 
 variable-requires : tie.Need-variable-requires Inv-loop μ-loop
-variable-requires c κs = rw (toZ-ofZ (fits c)) (sized (l c) (ranged c) .1)
+variable-requires c κs = variable-asked (fits c) (ranged c)
 
 is-positive-requires : tie.Need-is-positive-requires Inv-loop μ-loop
 is-positive-requires c κs = search needs
 
 assign-requires : tie.Need-assign-requires Inv-loop μ-loop
-assign-requires c κs = let x = c .before .before in rw (said natAbs (fits x) (c .before .variable .ensures)) (sized (l x) (ranged x))
+assign-requires c κs = let x = c .before .before in variable-bounds (fits x) (ranged x) (c .before .variable .ensures)
 
 add-i : tie.Need-add-i Inv-loop μ-loop
 add-i c = search needs

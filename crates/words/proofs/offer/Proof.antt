@@ -1,3 +1,4 @@
+-- The variables are positive literals, so to offer them is to make them true from nothing.
 use mathlib.Core.Path.{_∙_, ap}
 use borrow.Author.Needs.{needs}
 use Rattle.rules.specs.Terms.{Assignment}

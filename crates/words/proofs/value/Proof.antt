@@ -1,3 +1,4 @@
+-- The bit that is read is the one that `assigned` names.
 use borrow.Author.Needs.{needs}
 use Rattle.words.proofs.Assigned.{read-is}
 use Rattle.words.proofs.value.Statement.{statement}
