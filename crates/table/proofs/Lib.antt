@@ -3,4 +3,5 @@ pub mod Facts
 pub mod Places
 pub mod Entries
 pub mod Stacked
+pub mod Finding
 pub mod Readers
