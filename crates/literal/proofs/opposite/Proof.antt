@@ -1,0 +1,12 @@
+use Rattle.literal.proofs.Signed.{sized, minus-fits, minus-is}
+use Rattle.literal.proofs.opposite.Statement.{statement}
+use Rattle.literal.proofs.opposite.Tie as tie
+
+sub-result : tie.Need-sub-result
+sub-result c = minus-fits _ (c .fits .l) (sized (c .args .l) (c .pre) .1)
+
+returns : tie.Need-returns
+returns c = minus-is _ (c .fits .l) (sized (c .args .l) (c .pre) .1)
+
+pub opposite-spec : {M : Type 1} → statement M
+opposite-spec = tie.close (tie.spec sub-result returns)

@@ -1,0 +1,5 @@
+pub mod Bits
+pub mod Assigned
+pub mod Sets
+pub mod Made
+pub mod Counted

@@ -1,0 +1,58 @@
+use mathlib.Core.Path.{_≡_, sym, _∙_, ap}
+use Prim.Native.Nat.{_≤_}
+use borrow.Author.Needs.{needs}
+use lib.IntN.{natAbs}
+use mir.Facts.{toZ-ofZ}
+use Rattle.literal.specs.Signs.{is-pos}
+use Rattle.literal.proofs.Signed.{sized, said}
+use Rattle.words.specs.Words.{assigned}
+use Rattle.words.proofs.Sets.{has-positive, has-negative}
+use Rattle.words.proofs.has.Statement.{statement}
+use Rattle.words.proofs.has.Tie as tie
+
+-- the variable and the sign of the literal
+module _ (x : tie.After-is-positive) where
+  abbrev s : tie.Start
+  s = x .before .before
+
+  variable-is : x .before .variable .result ≡ natAbs (s .args .l)
+  variable-is = said natAbs (s .fits .l) (x .before .variable .ensures)
+
+  sign-is : is-pos (s .args .l) ≡ x .is-positive .result
+  sign-is = sym (said is-pos (s .fits .l) (x .is-positive .ensures))
+
+  bounds : (1 ≤ x .before .variable .result) × (x .before .variable .result ≤ 2048)
+  bounds = rw variable-is (sized (s .args .l) (s .pre))
+
+variable-requires : tie.Need-variable-requires
+variable-requires c κs = rw (toZ-ofZ (c .fits .l)) (sized (c .args .l) (c .pre) .1)
+
+is-positive-requires : tie.Need-is-positive-requires
+is-positive-requires c κs = search needs
+
+value-requires : tie.Need-value-requires
+value-requires c κs = bounds (c .before)
+
+returns : tie.Need-returns
+returns c =
+    let x = c .before .before in
+    c .value .ensures ∙ ap (assigned _) (variable-is x) ∙ has-positive _ _ (s x .args .l) (sign-is x ∙ c .before .if1 .taken)
+
+value-requires-2 : tie.Need-value-requires-2
+value-requires-2 c κs = bounds (c .before)
+
+returns-2 : tie.Need-returns-2
+returns-2 c =
+    let x = c .before .before in
+    c .value2 .ensures ∙ ap (assigned _) (variable-is x) ∙ has-negative _ _ (s x .args .l) (sign-is x ∙ c .before .if1 .left)
+
+pub has-spec : {M : Type 1} → statement M
+has-spec =
+    tie.close
+    (tie.spec
+    variable-requires
+    is-positive-requires
+    value-requires
+    returns
+    value-requires-2
+    returns-2)

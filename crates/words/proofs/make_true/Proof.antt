@@ -1,0 +1,95 @@
+use mathlib.Core.Path.{_≡_, refl, _∙_, ap₂}
+use mathlib.Core.Bool.{true}
+use mathlib.Core.List.{List}
+use Prim.Native.Nat.{_≤_, _<_, _-_}
+use borrow.Author.Needs.{needs}
+use lib.IntN.{ℤ, pos, natAbs}
+use lib.ListN.{length, getD, drop}
+use mir.Syntax.{w32}
+use mir.Val.{SFits}
+use mir.Facts.{toZ-ofZ}
+use Rattle.rules.specs.Terms.{in-range, upd}
+use Rattle.rules.specs.Frames.{make}
+use Rattle.rules.proofs.Lists.{all-index}
+use Rattle.literal.specs.Signs.{is-pos}
+use Rattle.literal.proofs.Signed.{sized, said}
+use Rattle.words.specs.Words.{assigned}
+use Rattle.words.proofs.Made.{made-on, made-end}
+use Rattle.words.proofs.make_true.Statement.{statement}
+use Rattle.words.proofs.make_true.Tie as tie
+
+abbrev Inv-loop : tie.InvT-loop
+Inv-loop w out₀ i₀ out i = (i ≤ length w) × (make (assigned out₀) w ≡ make (assigned out) (drop i w))
+
+abbrev μ-loop : tie.MeasureT-loop
+μ-loop w out₀ i₀ out i = length w - i
+
+-- the literal that is read
+module _ (x : tie.After-l Inv-loop μ-loop) where
+  abbrev at : tie.At-loop Inv-loop μ-loop
+  at = x .before .before
+
+  abbrev list : List ℤ
+  list = at .before .args .w .now
+
+  abbrev l : ℤ
+  l = getD list (at .loop .i) (pos 0)
+
+  fits : SFits w32 l
+  fits = record { sfits = x .l .given }
+
+  below : at .loop .i < length list
+  below = search needs
+
+  ranged : in-range 2048 l ≡ true
+  ranged = all-index (in-range 2048) list (at .loop .i) (pos 0) below (at .before .pre)
+
+loop-holds : tie.Need-loop-holds Inv-loop μ-loop
+loop-holds c = (search needs, refl)
+
+mul-l : tie.Need-mul-l Inv-loop μ-loop
+mul-l c = search needs
+
+shared-slice-copy-out-l : tie.Need-shared-slice-copy-out-l Inv-loop μ-loop
+shared-slice-copy-out-l c = search needs
+
+variable-requires : tie.Need-variable-requires Inv-loop μ-loop
+variable-requires c κs = rw (toZ-ofZ (fits c)) (sized (l c) (ranged c) .1)
+
+is-positive-requires : tie.Need-is-positive-requires Inv-loop μ-loop
+is-positive-requires c κs = search needs
+
+assign-requires : tie.Need-assign-requires Inv-loop μ-loop
+assign-requires c κs = let x = c .before .before in rw (said natAbs (fits x) (c .before .variable .ensures)) (sized (l x) (ranged x))
+
+add-i : tie.Need-add-i Inv-loop μ-loop
+add-i c = search needs
+
+loop-less : tie.Need-loop-less Inv-loop μ-loop
+loop-less c = search needs
+
+loop-again : tie.Need-loop-again Inv-loop μ-loop
+loop-again c =
+    let x = c .before .before .before in
+    let said-both = ap₂ (upd (assigned (at x .loop .out))) (said natAbs (fits x) (c .before .before .variable .ensures)) (said is-pos (fits x) (c .before .is-positive .ensures)) in
+    (search needs, made-on _ (list x) _ (at x .loop .i) (at x .loop .inv .1) (below x) (ranged x) _ (c .assign .ensures ∙ said-both))
+
+returns : tie.Need-returns Inv-loop μ-loop
+returns c = made-end _ _ _ _ (c .before .loop .inv .1) (c .loop-test .left)
+
+pub make-true-spec : {M : Type 1} → statement M
+make-true-spec =
+    tie.close
+    (tie.spec
+    Inv-loop
+    μ-loop
+    loop-holds
+    mul-l
+    shared-slice-copy-out-l
+    variable-requires
+    is-positive-requires
+    assign-requires
+    add-i
+    loop-less
+    loop-again
+    returns)

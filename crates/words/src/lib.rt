@@ -1,0 +1,124 @@
+// An assignment as 32 words of 64 bits, and a set of literals as two such arrays. Readers take a reference; an assignment that changes goes in by value and is handed back.
+ghost use mathlib.Core.Path.{_≡_};
+ghost use mathlib.Core.Bool.{true};
+ghost use Prim.Native.Nat.{_≤_};
+ghost use lib.Bits.{bitXor};
+ghost use Rattle.rules.specs.Lists.{all};
+ghost use Rattle.rules.specs.Terms.{in-range, opposes, upd, lit};
+ghost use Rattle.rules.specs.Propagation as paper;
+ghost use Rattle.rules.specs.Frames.{make, offered};
+ghost use Rattle.rules.specs.Answers.{differ};
+ghost use Rattle.literal.specs.Signs.{is-pos};
+ghost use Rattle.words.specs.Words.{count, assigned, set-of};
+
+pub fn value(words: &[u64; 32], v: usize) -> bool
+    requires { ⌜ (1 ≤ v) × (v ≤ 2048) ⌝ }
+    ensures { λ r. ⌜ r ≡ assigned (now (words .entry)) v ⌝ }
+{
+    let i = v - 1;
+    let w = words[i / 64];
+    (w >> (i % 64)) % 2 == 1
+}
+
+pub fn assign(words: [u64; 32], v: usize, b: bool) -> [u64; 32]
+    requires { ⌜ (1 ≤ v) × (v ≤ 2048) ⌝ }
+    ensures { λ r. ⌜ assigned r ≡ upd (assigned words) v b ⌝ }
+{
+    if value(&words, v) == b {
+        return words;
+    }
+    let i = v - 1;
+    let j = i / 64;
+    let mut out = words;
+    out[j] = out[j] ^ (1 << (i % 64));
+    out
+}
+
+pub fn is_true(words: &[u64; 32], l: i32) -> bool
+    requires { ⌜ in-range 2048 l ≡ true ⌝ }
+    ensures { λ r. ⌜ r ≡ lit (assigned (now (words .entry))) l ⌝ }
+{
+    value(words, literal::variable(l)) == literal::is_positive(l)
+}
+
+// All the literals of w become true, one after the other.
+pub fn make_true(words: [u64; 32], w: &[i32]) -> [u64; 32]
+    requires { ⌜ all (in-range 2048) (now w) ≡ true ⌝ }
+    ensures { λ r. ⌜ assigned r ≡ make (assigned words) (now (w .entry)) ⌝ }
+{
+    let mut out = words;
+    let mut i: usize = 0;
+    while i < w.len() {
+        let l = w[i];
+        let next = assign(out, literal::variable(l), literal::is_positive(l));
+        out = next;
+        i += 1;
+    }
+    out
+}
+
+// The assignment that a list of true variables offers.
+pub fn offer(vs: &[i32]) -> [u64; 32]
+    requires { ⌜ (all (in-range 2048) (now vs) ≡ true) × (all is-pos (now vs) ≡ true) ⌝ }
+    ensures { λ r. ⌜ assigned r ≡ offered (now (vs .entry)) ⌝ }
+{
+    make_true([0u64; 32], vs)
+}
+
+fn bits_apart(x: u64, y: u64) -> usize
+    ensures { λ r. ⌜ r ≡ count (bitXor x y) 64 ⌝ }
+{
+    u64::count_ones(x ^ y) as usize
+}
+
+// How many variables differ, counted a word at a time.
+pub fn changed(a: &[u64; 32], b: &[u64; 32]) -> usize
+    ensures { λ r. ⌜ r ≡ differ (assigned (now (a .entry))) (assigned (now (b .entry))) 2048 ⌝ }
+{
+    let mut n: usize = 0;
+    let mut i: usize = 0;
+    while i < 32 {
+        n += bits_apart(a[i], b[i]);
+        i += 1;
+    }
+    n
+}
+
+// A set of literals: the variables of the positive ones, and of the negative ones.
+pub struct Marks {
+    pub plus: [u64; 32],
+    pub minus: [u64; 32],
+}
+
+pub fn has(plus: &[u64; 32], minus: &[u64; 32], l: i32) -> bool
+    requires { ⌜ in-range 2048 l ≡ true ⌝ }
+    ensures { λ r. ⌜ r ≡ set-of (now (plus .entry)) (now (minus .entry)) l ⌝ }
+{
+    let v = literal::variable(l);
+    if literal::is_positive(l) {
+        return value(plus, v);
+    }
+    value(minus, v)
+}
+
+// The set holds the opposite of l.
+pub fn has_opposite(plus: &[u64; 32], minus: &[u64; 32], l: i32) -> bool
+    requires { ⌜ in-range 2048 l ≡ true ⌝ }
+    ensures { λ r. ⌜ r ≡ opposes (set-of (now (plus .entry)) (now (minus .entry))) l ⌝ }
+{
+    has(minus, plus, l)
+}
+
+// The set with l in it.
+pub fn also(plus: [u64; 32], minus: [u64; 32], l: i32) -> Marks
+    requires { ⌜ in-range 2048 l ≡ true ⌝ }
+    ensures { λ r. ⌜ set-of (r .plus) (r .minus) ≡ paper.also l (set-of plus minus) ⌝ }
+{
+    let v = literal::variable(l);
+    if literal::is_positive(l) {
+        let more = assign(plus, v, true);
+        return Marks { plus: more, minus };
+    }
+    let more = assign(minus, v, true);
+    Marks { plus, minus: more }
+}
