@@ -1,0 +1,5 @@
+-- The laws of propagation, bottom up: the allowed set; the scan of a clause; the hints in order; a target made false.
+pub mod Allowed
+pub mod Scan
+pub mod Runs
+pub mod Target
