@@ -21,35 +21,40 @@ use Rattle.table.proofs.Facts.{all-index, all-indexed, all-more}
 use Rattle.hints.specs.Scope.{permits, allowed-of, Positive}
 use Rattle.hints.specs.declared.Scope.{Scope}
 
-among-cons : (h : Held) (hs : List Held) (i : ℕ) → among (h ∷ hs) i ≡ cond (eqb (h .id) i) (clause (h .lits)) (among hs i)
+pub among-cons : (h : Held) (hs : List Held) (i : ℕ) → among (h ∷ hs) i ≡ cond (eqb (h .id) i) (clause (h .lits)) (among hs i)
 unfolding among any fetch
 among-cons h hs i = by-cases (eqb (h .id) i) (λ e. rw e) (λ e. rw e)
 
 -- ---- among the rows that a test lets through
 
 module _ (p : Row → Bool) (pool : List ℤ) where
-  abbrev through : List Row → Allowed
+  abbrev pub through : List Row → Allowed
   through rows = among (map (held pool) (only p rows))
 
-  through-cons : (r : Row) (rows : List Row) (i : ℕ) → eqb (id-of r) i ≡ false → through (r ∷ rows) i ≡ through rows i
+  -- a row of another id is passed over
+  pub through-past : (r : Row) (rows : List Row) (i : ℕ) → eqb (id-of r) i ≡ false → through (r ∷ rows) i ≡ through rows i
   unfolding only
-  through-cons r rows i e = by-cases (p r) (λ t. rw t (among-cons (held pool r) (map (held pool) (only p rows)) i ∙ rw e)) (λ f. rw f)
+  through-past r rows i e = by-cases (p r) (λ t. rw t (among-cons (held pool r) (map (held pool) (only p rows)) i ∙ rw e)) (λ f. rw f)
 
-  through-none : (rows : List Row) (i : ℕ) → All (λ r. id-of r ≡ i → ⊥) rows → through rows i ≡ nobody
+  pub through-none : (rows : List Row) (i : ℕ) → All (λ r. id-of r ≡ i → ⊥) rows → through rows i ≡ nobody
   unfolding only among any
   through-none [] i none = refl
-  through-none (r ∷ rows) i (both h a) = through-cons r rows i (ne-eqb (id-of r) i h) ∙ through-none rows i a
+  through-none (r ∷ rows) i (both h a) = through-past r rows i (ne-eqb (id-of r) i h) ∙ through-none rows i a
+
+  -- the row of the id, before rows of later ids
+  pub through-here : (r : Row) (rows : List Row) → All (λ x. id-of r < id-of x) rows → through (r ∷ rows) (id-of r) ≡ cond (p r) (clause (clause-part pool r)) nobody
+  unfolding only
+  through-here r rows a = by-cases (p r)
+      (λ t. rw t (among-cons (held pool r) (map (held pool) (only p rows)) (id-of r) ∙ rw (eq-eqb (id-of r) (id-of r) refl)))
+      (λ f. rw f (through-none rows (id-of r) (all-more (λ x l (z : id-of x ≡ id-of r). omega arith) a)))
 
   through-at : (rows : List Row) (k : ℕ) → Rising rows → k < length rows
       → through rows (id-of (row-at rows k)) ≡ cond (p (row-at rows k)) (clause (clause-part pool (row-at rows k))) nobody
-  unfolding only
   through-at [] k up h = absurd (not-suc-le-zero h)
-  through-at (r ∷ rows) zero (ahead a up) h = by-cases (p r)
-      (λ t. rw t (among-cons (held pool r) (map (held pool) (only p rows)) (id-of r) ∙ rw (eq-eqb (id-of r) (id-of r) refl)))
-      (λ f. rw f (through-none rows (id-of r) (all-more (λ x l (z : id-of x ≡ id-of r). omega arith) a)))
+  through-at (r ∷ rows) zero (ahead a up) h = through-here r rows a
   through-at (r ∷ rows) (suc k) (ahead a up) h =
       let l = all-index a k [] (le-of-suc-le-suc h) in
-      through-cons r rows (id-of (row-at rows k)) (ne-eqb _ _ (λ (z : id-of r ≡ id-of (row-at rows k)). omega arith)) ∙ through-at rows k up (le-of-suc-le-suc h)
+      through-past r rows (id-of (row-at rows k)) (ne-eqb _ _ (λ (z : id-of r ≡ id-of (row-at rows k)). omega arith)) ∙ through-at rows k up (le-of-suc-le-suc h)
 
 -- ---- the two tests of a row
 
