@@ -15,6 +15,7 @@ use Rattle.rules.specs.Terms.{in-range, distinct, is-clause, is-witness, Held, 
 use Rattle.rules.specs.Answers.{need, free-entry, free-words}
 use Rattle.rules.specs.declared.Fault.the-variants.{NoEntry, NoWords}
 use Rattle.rules.proofs.Lists.{by-cases, and-left, and-right, all-at, all-of, all-nil}
+use Rattle.rules.proofs.Places.{words-of, room-append}
 use Rattle.table.specs.Facts.{All, none, both, total}
 use Rattle.table.specs.Spelled.{Row, row-at, id-of, place-of, start-of, length-of, witness-of, size, part, clause-part, witness-part, held, stands, clauses, held-rows, from-top, spelled, Inside, Lawful, settled, Listed, Core, Fit, Readable, Located}
 use Rattle.table.specs.declared.Table.{Table}
@@ -23,43 +24,9 @@ use Rattle.table.proofs.Facts.{all-index, all-indexed, all-unreverse, a
 use Rattle.table.proofs.Places.{length-settled, room-settled}
 use Rattle.table.proofs.Entries.{Entry, entry, spell, clauses-spell, spell-unseen, has-here, has-none, fetch-here}
 use Rattle.table.proofs.Stacked.{listed-has, listed-fetch}
-
--- ---- a part that lies inside the pool is as long as its row says
-
-pub part-length : (pool : List ℤ) (start n : ℕ) → start + n ≤ length pool → length (part pool start n) ≡ n
-part-length pool start n h = length-take-le n (drop start pool) (omega (arith, length-drop start pool))
-
-module _ (pool : List ℤ) (r : Row) (h : Inside (length pool) r) where
-  pub clause-length : length (clause-part pool r) ≡ length-of r
-  clause-length = part-length pool (start-of r) (length-of r) (omega arith)
-
-  pub witness-length : length (witness-part pool r) ≡ witness-of r
-  witness-length = part-length pool (start-of r + length-of r) (witness-of r) (omega arith)
+use Rattle.table.proofs.Rows.{clause-length, witness-length, lawful-placed, lawful-clause, lawful-witness}
 
 -- ---- each row stands in one of the three places: a number of each, summed over the places, is summed over the rows
-
-module _ (vars : ℕ) where
-  pub lawful-placed : (p : ℕ) (h : Held) → Lawful vars p h → p ≤ 2
-  unfolding Lawful
-  lawful-placed zero h l = omega arith
-  lawful-placed (suc zero) h l = omega arith
-  lawful-placed (suc (suc zero)) h l = omega arith
-  lawful-placed (suc (suc (suc p))) h l = absurd l
-
-  pub lawful-clause : (p : ℕ) (h : Held) → Lawful vars p h → is-clause vars (h .lits) ≡ true
-  unfolding Lawful
-  lawful-clause zero h l = l .0
-  lawful-clause (suc zero) h l = l .0
-  lawful-clause (suc (suc zero)) h l = l .0
-  lawful-clause (suc (suc (suc p))) h l = absurd l
-
-  -- no witness is a clause too
-  pub lawful-witness : (p : ℕ) (h : Held) → Lawful vars p h → is-clause vars (h .witness) ≡ true
-  unfolding Lawful is-clause is-witness all distinct
-  lawful-witness zero h l = let e = l .1 in rw e
-  lawful-witness (suc zero) h l = let e = l .1 in rw e
-  lawful-witness (suc (suc zero)) h l = and-left (is-clause vars (h .witness)) _ (l .1)
-  lawful-witness (suc (suc (suc p))) h l = absurd l
 
 module _ (f : Held → ℕ) (sum : List Held → ℕ) (sum-nil : sum [] ≡ 0) (sum-cons : (h : Held) (hs : List Held) → sum (h ∷ hs) ≡ f h + sum hs) (pool : List ℤ) where
   -- the clauses of the place p, where the row r that stands in q comes first
@@ -82,17 +49,9 @@ total-ones : (rows : List Row) → total (λ r. 1) rows ≡ length rows
 total-ones [] = refl
 total-ones (r ∷ rows) = omega (arith, total-ones rows)
 
-abbrev words-of : Held → ℕ
-words-of h = length (h .lits) + length (h .witness)
-
 total-sizes : (pool : List ℤ) (rows : List Row) → All (Inside (length pool)) rows → total (λ r. words-of (held pool r)) rows ≡ total size rows
 total-sizes pool [] none = refl
 total-sizes pool (r ∷ rows) (both h a) = omega (arith, clause-length pool r h, witness-length pool r h, total-sizes pool rows a)
-
-room-append : (hs gs : List Held) → room (hs ++ gs) ≡ room hs + room gs
-unfolding room
-room-append [] gs = omega arith
-room-append (h ∷ hs) gs = omega (arith, room-append hs gs)
 
 room-nil : room [] ≡ 0
 unfolding room

@@ -160,3 +160,15 @@ pub record Readable (rows : List Row) (pool : List ℤ) : Type 0 where
 abbrev pub Located : List Row → ℕ → Found → Type 0
 Located rows i (At k) = (k < length rows) × (id-of (row-at rows k) ≡ i)
 Located rows i Nothing = (k : ℕ) → k < length rows → id-of (row-at rows k) ≡ i → ⊥
+
+-- ---- writers
+
+-- `at` is a row held; the numbers that the code leans on
+abbrev pub RowHeld : Table → List Row → ℕ → Type 0
+RowHeld t rows at = (at < t .count) × (t .count ≤ length rows) × (size (row-at rows at) ≤ t .words)
+
+-- the id is among the first n
+pub record Among (ids : List ℕ) (n i : ℕ) : Type 0 where
+  pub index : ℕ
+  pub low : index < n
+  pub named : getD ids index 0 ≡ i
