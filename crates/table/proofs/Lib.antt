@@ -7,4 +7,6 @@ pub mod Stacked
 pub mod Changes
 pub mod Rows
 pub mod Moves
+pub mod Packing
 pub mod Readers
+pub mod Weakening
