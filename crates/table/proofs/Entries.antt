@@ -13,15 +13,7 @@ use Rattle.rules.specs.Terms.{Held, has, fetch}
 use Rattle.rules.specs.Frames.{without, place}
 use Rattle.rules.proofs.Lists.{by-cases}
 use Rattle.table.specs.Facts.{All, none, both}
-use Rattle.table.specs.Spelled.{Row, place-of, stands, held, clauses}
-
--- a clause or a record, and the place that it stands in
-pub record Entry : Type 0 where
-  pub where-is : ℕ
-  pub what : Held
-
-abbrev pub entry : List ℤ → Row → Entry
-entry pool r = record { where-is = place-of r; what = held pool r }
+use Rattle.table.specs.Spelled.{Row, stands, Entry, entry, clauses}
 
 -- the clauses of the place p
 unfoldable pub spell : ℕ → List Entry → List Held

@@ -8,4 +8,6 @@ pub mod Changes
 pub mod Rows
 pub mod Moves
 pub mod Finding
+pub mod Packing
 pub mod Readers
+pub mod Weakening

@@ -8,14 +8,16 @@ use native.Mathlib.Omega.{arith}
 use lib.IntN.{ℤ}
 use lib.ListN.{length, take, drop, length-drop}
 use lib.Seq.{length-take-le}
+use lib.Dec.{leb}
+use borrow.Author.Tests.{leb-true}
 use Rattle.rules.specs.Lists.{all}
 use Rattle.rules.specs.Terms.{Held, is-clause, is-witness, distinct}
 use Rattle.rules.proofs.Lists.{and-left}
 use Rattle.table.specs.Facts.{All, none, both, Pairs, total}
-use Rattle.table.specs.Spelled.{Row, id-of, place-of, start-of, length-of, witness-of, size, part, clause-part, witness-part, held, stands, clauses, Rising, Known, Inside, Clear, Lawful, Listed, Core}
+use Rattle.table.specs.Spelled.{Row, id-of, place-of, start-of, length-of, witness-of, size, part, clause-part, witness-part, held, stands, clauses, Rising, Known, Inside, Clear, Lawful, Listed, Core, Entry, entry}
 use Rattle.table.proofs.Facts.{all-here, all-left, all-right, all-tail, all-join, all-cut, all-put, all-more, all-map, all-unmap, map-same, pairs-before, pairs-after, pairs-cut, pairs-put, total-cut}
 use Rattle.table.proofs.Slices.{part-same}
-use Rattle.table.proofs.Entries.{Entry, entry, spell, clauses-spell, spell-unseen}
+use Rattle.table.proofs.Entries.{spell, clauses-spell, spell-unseen}
 use Rattle.table.proofs.Changes.{entry-of}
 
 -- ---- a part that lies inside the pool is as long as its row says
@@ -54,6 +56,10 @@ module _ (vars : ℕ) where
   lawful-witness (suc zero) h l = let e = l .1 in rw e
   lawful-witness (suc (suc zero)) h l = and-left (is-clause vars (h .witness)) _ (l .1)
   lawful-witness (suc (suc (suc p))) h l = absurd l
+
+pub clause-short : (v : ℕ) (c : List ℤ) → is-clause v c ≡ true → length c ≤ 256
+unfolding is-clause
+clause-short v c k = leb-true (length c) 256 (and-left (leb (length c) 256) _ k)
 
 -- ---- pools that agree below top
 

@@ -62,6 +62,9 @@ module _ {A : Type 0} where
   pub length-over : (d s : List A) → length s ≤ length d → length (over d s) ≡ length d
   length-over d s h = omega (arith, length-append s (drop (length s) d), length-drop (length s) d)
 
+  pub length-tail : (l : List A) (u : ℕ) → length (midOf u (length l - u) l) ≡ length l - u
+  length-tail l u = length-take-le (length l - u) (drop u l) (omega (arith, length-drop u l))
+
   -- `&mut l[u..]`, lent to one who writes s over it
   pub tail-written : (l s : List A) (u : ℕ) → u ≤ length l → (z : List A) → z ≡ over (midOf u (length l - u) l) s → putMid u (length l - u) l z ≡ written l u s
   tail-written l s u h z e =

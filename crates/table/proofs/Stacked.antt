@@ -13,10 +13,10 @@ use Rattle.rules.specs.Frames.{without}
 use Rattle.rules.proofs.Lists.{by-cases, true-false}
 use Rattle.rules.proofs.Places.{fetch-id}
 use Rattle.table.specs.Facts.{All, none, both, Pairs, alone, ahead}
-use Rattle.table.specs.Spelled.{settled, Listed, Among}
+use Rattle.table.specs.Spelled.{settled, Listed, Among, Entry}
 use Rattle.table.proofs.Facts.{all-left, all-join, all-cut, all-more, all-both, map-same, pairs-before, pairs-after, pairs-cut}
 use Rattle.table.proofs.Places.{has-settled, Single, settled-without}
-use Rattle.table.proofs.Entries.{Entry, spell, Before, After, spell-comes, spell-goes, fetch-here, fetch-other, has-here, has-other, has-none}
+use Rattle.table.proofs.Entries.{spell, Before, After, spell-comes, spell-goes, fetch-here, fetch-other, has-here, has-other, has-none}
 
 -- ---- F is the record of an id
 

@@ -2,3 +2,4 @@
 pub mod Facts
 pub mod Spelled
 pub mod Writes
+pub mod Room
