@@ -11,10 +11,10 @@ use mathlib.Core.Bool.{false}
 use Rattle.rules.specs.Terms.{has, fetch}
 use Rattle.rules.proofs.Lists.{by-cases}
 use Rattle.table.specs.Facts.{All}
-use Rattle.table.specs.Spelled.{Row, row-at, id-of, place-of, held, stands, clauses, Rising, Located}
+use Rattle.table.specs.Spelled.{Row, row-at, id-of, place-of, held, stands, clauses, Rising, Located, Entry, entry}
 use Rattle.table.specs.declared.Found.the-variants.{Nothing}
 use Rattle.table.proofs.Facts.{all-indexed, all-join, all-more, all-map, pairs-before, pairs-after}
-use Rattle.table.proofs.Entries.{Entry, entry, spell, clauses-spell, spell-unseen, has-here, has-none, fetch-here}
+use Rattle.table.proofs.Entries.{spell, clauses-spell, spell-unseen, has-here, has-none, fetch-here}
 
 module _ (pool : List ℤ) (rows : List Row) where
   -- no row has the id: no place has it
