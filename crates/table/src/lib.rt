@@ -127,7 +127,7 @@ fn close_stack(stack: &mut [u32], n: usize, at: usize)
 }
 
 // Where the id stands among the first n of the stack: it does, so the search from the top ends at it.
-fn position(stack: &[u32], n: usize, id: u32) -> usize
+pub fn position(stack: &[u32], n: usize, id: u32) -> usize
     requires { ⌜ (n ≤ length (now stack)) × Among (now stack) n id ⌝ }
     ensures { λ r. ⌜ (r < n) × (getD (now (stack .entry)) r 0 ≡ id) ⌝ }
 {
