@@ -53,8 +53,7 @@ pub fn flaw(vars: usize, c: &[i32], at: usize) -> Check
         if words::value(&seen, v) {
             return Check::Failed(Fault::Literal(index));
         }
-        let next = words::assign(seen, v, true);
-        seen = next;
+        words::set_to(&mut seen, v, true);
         i += 1;
     }
     Check::Passed
@@ -109,9 +108,7 @@ pub fn mark(c: &[i32]) -> Marks
     let mut minus = [0u64; 32];
     let mut i: usize = 0;
     while i < c.len() {
-        let more = words::also(plus, minus, c[i]);
-        plus = more.plus;
-        minus = more.minus;
+        words::insert(&mut plus, &mut minus, c[i]);
         i += 1;
     }
     Marks { plus, minus }

@@ -35,15 +35,15 @@ unfolding upd
 upd-or α v u = by-cases (eqb v u) (λ e. rw e) (λ e. rw e)
 
 module _ (plus minus : List ℕ) where
-  pub has-positive : (l : ℤ) (v : ℕ) → v ≡ natAbs l → is-pos l ≡ true → assigned plus v ≡ set-of plus minus l
+  pub has-positive : (l : ℤ) → is-pos l ≡ true → assigned plus (natAbs l) ≡ set-of plus minus l
   unfolding set-of
-  has-positive (pos n) v e h = ap (assigned plus) e
-  has-positive (negsuc n) v e h = absurd (false≢true h)
+  has-positive (pos n) h = refl
+  has-positive (negsuc n) h = absurd (false≢true h)
 
-  pub has-negative : (l : ℤ) (v : ℕ) → v ≡ natAbs l → is-pos l ≡ false → assigned minus v ≡ set-of plus minus l
+  pub has-negative : (l : ℤ) → is-pos l ≡ false → assigned minus (natAbs l) ≡ set-of plus minus l
   unfolding set-of
-  has-negative (pos n) v e h = absurd (true≢false h)
-  has-negative (negsuc n) v e h = ap (assigned minus) e
+  has-negative (pos n) h = absurd (true≢false h)
+  has-negative (negsuc n) h = refl
 
   -- the arrays changed over are the set of the opposites
   pub changed-over : set-of minus plus ≡ opposes (set-of plus minus)
@@ -56,23 +56,23 @@ module _ (plus minus : List ℕ) where
       at (negsuc n) = refl
 
   -- a literal more
-  pub also-positive : (more : List ℕ) (l : ℤ) (v : ℕ) → v ≡ natAbs l → is-pos l ≡ true → assigned more ≡ upd (assigned plus) v true → set-of more minus ≡ also l (set-of plus minus)
+  pub also-positive : (more : List ℕ) (l : ℤ) → is-pos l ≡ true → assigned more ≡ upd (assigned plus) (natAbs l) true → set-of more minus ≡ also l (set-of plus minus)
   unfolding set-of
-  also-positive more (negsuc n) v q h e = absurd (false≢true h)
-  also-positive more (pos n) v q h e = fun-ext at
+  also-positive more (negsuc n) h e = absurd (false≢true h)
+  also-positive more (pos n) h e = fun-ext at
     where
       at : (m : ℤ) → set-of more minus m ≡ also (pos n) (set-of plus minus) m
-      at (pos m) = rw (e, q) (upd-or (assigned plus) n m)
+      at (pos m) = rw e (upd-or (assigned plus) n m)
       at (negsuc m) = refl
 
-  pub also-negative : (more : List ℕ) (l : ℤ) (v : ℕ) → v ≡ natAbs l → is-pos l ≡ false → assigned more ≡ upd (assigned minus) v true → set-of plus more ≡ also l (set-of plus minus)
+  pub also-negative : (more : List ℕ) (l : ℤ) → is-pos l ≡ false → assigned more ≡ upd (assigned minus) (natAbs l) true → set-of plus more ≡ also l (set-of plus minus)
   unfolding set-of
-  also-negative more (pos n) v q h e = absurd (true≢false h)
-  also-negative more (negsuc n) v q h e = fun-ext at
+  also-negative more (pos n) h e = absurd (true≢false h)
+  also-negative more (negsuc n) h e = fun-ext at
     where
       at : (m : ℤ) → set-of plus more m ≡ also (negsuc n) (set-of plus minus) m
       at (pos m) = refl
-      at (negsuc m) = rw (e, q, upd-or (assigned minus) (suc n) (suc m), eqb·suc-suc n m)
+      at (negsuc m) = rw (e, upd-or (assigned minus) (suc n) (suc m), eqb·suc-suc n m)
 
 -- the empty set
 pub zeros-empty : set-of (replicate 32 0) (replicate 32 0) ≡ (λ (l : ℤ). false)

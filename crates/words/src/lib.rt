@@ -1,7 +1,8 @@
-// An assignment as 32 words of 64 bits, and a set of literals as two such arrays. Readers take a reference; an assignment that changes goes in by value and is handed back.
+// An assignment as 32 words of 64 bits, and a set of literals as two such arrays. One variable or literal more is written in place: by value, all 32 words would be copied each time.
 ghost use mathlib.Core.Path.{_≡_};
 ghost use mathlib.Core.Bool.{true};
 ghost use Prim.Native.Nat.{_≤_};
+ghost use lib.ListN.{length};
 ghost use lib.Bits.{bitXor};
 ghost use Rattle.rules.specs.Lists.{all};
 ghost use Rattle.rules.specs.Terms.{in-range, opposes, upd, lit};
@@ -20,17 +21,30 @@ pub fn value(words: &[u64; 32], v: usize) -> bool
     (w >> (i % 64)) % 2 == 1
 }
 
+// Does nothing: its promise says that an array has its 32 words, which is not known of one behind a `&mut`.
+fn is_whole(words: [u64; 32])
+    ensures { λ _. ⌜ length words ≡ 32 ⌝ }
+{}
+
+pub fn set_to(words: &mut [u64; 32], v: usize, b: bool)
+    requires { ⌜ (1 ≤ v) × (v ≤ 2048) ⌝ }
+    ensures { λ _. ⌜ assigned (now (words .exit)) ≡ upd (assigned (now (words .entry))) v b ⌝ }
+{
+    is_whole(*words);
+    if value(words, v) == b {
+        return;
+    }
+    let i = v - 1;
+    let j = i / 64;
+    words[j] = words[j] ^ (1 << (i % 64));
+}
+
 pub fn assign(words: [u64; 32], v: usize, b: bool) -> [u64; 32]
     requires { ⌜ (1 ≤ v) × (v ≤ 2048) ⌝ }
     ensures { λ r. ⌜ assigned r ≡ upd (assigned words) v b ⌝ }
 {
-    if value(&words, v) == b {
-        return words;
-    }
-    let i = v - 1;
-    let j = i / 64;
     let mut out = words;
-    out[j] = out[j] ^ (1 << (i % 64));
+    set_to(&mut out, v, b);
     out
 }
 
@@ -50,8 +64,7 @@ pub fn make_true(words: [u64; 32], w: &[i32]) -> [u64; 32]
     let mut i: usize = 0;
     while i < w.len() {
         let l = w[i];
-        let next = assign(out, literal::variable(l), literal::is_positive(l));
-        out = next;
+        set_to(&mut out, literal::variable(l), literal::is_positive(l));
         i += 1;
     }
     out
@@ -109,16 +122,15 @@ pub fn has_opposite(plus: &[u64; 32], minus: &[u64; 32], l: i32) -> bool
     has(minus, plus, l)
 }
 
-// The set with l in it.
-pub fn also(plus: [u64; 32], minus: [u64; 32], l: i32) -> Marks
+// The set takes up l.
+pub fn insert(plus: &mut [u64; 32], minus: &mut [u64; 32], l: i32)
     requires { ⌜ in-range 2048 l ≡ true ⌝ }
-    ensures { λ r. ⌜ set-of (r .plus) (r .minus) ≡ paper.also l (set-of plus minus) ⌝ }
+    ensures { λ _. ⌜ set-of (now (plus .exit)) (now (minus .exit)) ≡ paper.also l (set-of (now (plus .entry)) (now (minus .entry))) ⌝ }
 {
     let v = literal::variable(l);
     if literal::is_positive(l) {
-        let more = assign(plus, v, true);
-        return Marks { plus: more, minus };
+        set_to(plus, v, true);
+    } else {
+        set_to(minus, v, true);
     }
-    let more = assign(minus, v, true);
-    Marks { plus, minus: more }
 }

@@ -94,8 +94,10 @@ returns-2 c =
     let s = seen-is (c .before) ∙ c .if2 .taken in
     faulty (flaws _) _ _ _ _ _ (at x .loop .inv .1) (below x) (rw (in-the-range (v .before), s))
 
-assign-requires : tie.Need-assign-requires Inv-loop μ-loop
-assign-requires c κs = let v = at-variable (c .before) in variable-bounds (fits (at-l (v .before))) (ranged (v .before)) (v .variable .ensures)
+set-to-requires : tie.Need-set-to-requires Inv-loop μ-loop
+set-to-requires c κs =
+    let v = at-variable (c .before .before) in
+    variable-bounds (fits (at-l (v .before))) (ranged (v .before)) (v .variable .ensures)
 
 add-i : tie.Need-add-i Inv-loop μ-loop
 add-i c = search needs
@@ -105,10 +107,10 @@ loop-less c = search needs
 
 loop-again : tie.Need-loop-again Inv-loop μ-loop
 loop-again c =
-    let v = at-variable (c .before .before) in
+    let v = at-variable (c .before .before .before) in
     let x = at-l (v .before) in
-    let s = seen-is (c .before .before) ∙ c .before .if2 .left in
-    let kept = c .assign .ensures ∙ ap (λ (n : ℕ). upd (assigned (at x .loop .seen)) n true) (variable-is v) in
+    let s = seen-is (c .before .before .before) ∙ c .before .before .if2 .left in
+    let kept = c .set-to .ensures ∙ ap (λ (n : ℕ). upd (assigned (at x .loop .seen)) n true) (variable-is v) in
     (search needs, sound-on (flaws _) _ _ _ _ _ (at x .loop .inv .1) (below x) (rw (in-the-range (v .before), s)) _ kept)
 
 returns-3 : tie.Need-returns-3 Inv-loop μ-loop
@@ -129,7 +131,7 @@ flaw-spec =
     variable-requires
     value-requires
     returns-2
-    assign-requires
+    set-to-requires
     add-i
     loop-less
     loop-again

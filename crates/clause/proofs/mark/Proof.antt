@@ -21,12 +21,12 @@ abbrev μ-loop : tie.MeasureT-loop
 μ-loop c plus₀ minus₀ i₀ plus minus i = length c - i
 
 -- the literal that is read
-module _ (x : tie.After-also-arg Inv-loop μ-loop) where
+module _ (x : tie.After-insert-arg Inv-loop μ-loop) where
   abbrev at : tie.At-loop Inv-loop μ-loop
-  at = x .before .before
+  at = x .before .before .before .before
 
   fits : SFits w32 (getD (at .before .args .c .now) (at .loop .i) (pos 0))
-  fits = record { sfits = x .also-arg .given }
+  fits = record { sfits = x .insert-arg .given }
 
   below : at .loop .i < length (at .before .args .c .now)
   below = search needs
@@ -34,14 +34,14 @@ module _ (x : tie.After-also-arg Inv-loop μ-loop) where
 loop-holds : tie.Need-loop-holds Inv-loop μ-loop
 loop-holds c = (search needs, none-marked _)
 
-mul-also : tie.Need-mul-also Inv-loop μ-loop
-mul-also c = search needs
+mul-insert : tie.Need-mul-insert Inv-loop μ-loop
+mul-insert c = search needs
 
-shared-slice-copy-out-also : tie.Need-shared-slice-copy-out-also Inv-loop μ-loop
-shared-slice-copy-out-also c = search needs
+shared-slice-copy-out-insert : tie.Need-shared-slice-copy-out-insert Inv-loop μ-loop
+shared-slice-copy-out-insert c = search needs
 
-also-requires : tie.Need-also-requires Inv-loop μ-loop
-also-requires c κs = read-in _ _ (at c .before .pre) (below c) (fits c)
+insert-requires : tie.Need-insert-requires Inv-loop μ-loop
+insert-requires c κs = read-in _ _ (at c .before .pre) (below c) (fits c)
 
 add-i : tie.Need-add-i Inv-loop μ-loop
 add-i c = search needs
@@ -51,8 +51,9 @@ loop-less c = search needs
 
 loop-again : tie.Need-loop-again Inv-loop μ-loop
 loop-again c =
-    let x = c .before .before .before in
-    (search needs, marked _ _ _ _ (at x .loop .inv .1) (below x) _ (said (λ (l : ℤ). also l (set-of (at x .loop .plus) (at x .loop .minus))) (fits x) (c .before .before .also .ensures)))
+    let x = c .before in
+    let more = said (λ (l : ℤ). also l (set-of (at x .loop .plus) (at x .loop .minus))) (fits x) (c .insert .ensures) in
+    (search needs, marked _ _ _ _ (at x .loop .inv .1) (below x) _ more)
 
 returns : tie.Need-returns Inv-loop μ-loop
 returns c = all-marked _ _ _ _ (c .before .loop .inv .1) (c .loop-test .left)
@@ -64,9 +65,9 @@ mark-spec =
     Inv-loop
     μ-loop
     loop-holds
-    mul-also
-    shared-slice-copy-out-also
-    also-requires
+    mul-insert
+    shared-slice-copy-out-insert
+    insert-requires
     add-i
     loop-less
     loop-again

@@ -1,9 +1,10 @@
 -- The sign picks the array, the variable the bit.
-use mathlib.Core.Path.{sym, _∙_}
+use mathlib.Core.Path.{sym, _∙_, ap}
 use borrow.Author.Needs.{needs}
 use lib.IntN.{natAbs}
 use Rattle.literal.specs.Signs.{is-pos}
 use Rattle.literal.proofs.Signed.{variable-asked, variable-bounds, said}
+use Rattle.words.specs.Words.{assigned}
 use Rattle.words.proofs.Sets.{has-positive, has-negative}
 use Rattle.words.proofs.has.Statement.{statement}
 use Rattle.words.proofs.has.Tie as tie
@@ -20,7 +21,9 @@ value-requires c κs = let s = c .before .before .before in variable-bounds (s .
 returns : tie.Need-returns
 returns c =
     let s = c .before .before .before .before in
-    c .value .ensures ∙ has-positive _ _ (s .args .l) _ (said natAbs (s .fits .l) (c .before .before .before .variable .ensures)) (sym (said is-pos (s .fits .l) (c .before .before .is-positive .ensures)) ∙ c .before .if1 .taken)
+    let v = said natAbs (s .fits .l) (c .before .before .before .variable .ensures) in
+    let b = said is-pos (s .fits .l) (c .before .before .is-positive .ensures) in
+    c .value .ensures ∙ ap (assigned _) v ∙ has-positive _ _ (s .args .l) (sym b ∙ c .before .if1 .taken)
 
 value-requires-2 : tie.Need-value-requires-2
 value-requires-2 c κs = let s = c .before .before .before in variable-bounds (s .fits .l) (s .pre) (c .before .before .variable .ensures)
@@ -28,7 +31,9 @@ value-requires-2 c κs = let s = c .before .before .before in variable-bounds (s
 returns-2 : tie.Need-returns-2
 returns-2 c =
     let s = c .before .before .before .before in
-    c .value2 .ensures ∙ has-negative _ _ (s .args .l) _ (said natAbs (s .fits .l) (c .before .before .before .variable .ensures)) (sym (said is-pos (s .fits .l) (c .before .before .is-positive .ensures)) ∙ c .before .if1 .left)
+    let v = said natAbs (s .fits .l) (c .before .before .before .variable .ensures) in
+    let b = said is-pos (s .fits .l) (c .before .before .is-positive .ensures) in
+    c .value2 .ensures ∙ ap (assigned _) v ∙ has-negative _ _ (s .args .l) (sym b ∙ c .before .if1 .left)
 
 pub has-spec : {M : Type 1} → statement M
 has-spec =

@@ -54,13 +54,13 @@ shared-slice-copy-out-l : tie.Need-shared-slice-copy-out-l Inv-loop μ-loop
 shared-slice-copy-out-l c = search needs
 
 variable-requires : tie.Need-variable-requires Inv-loop μ-loop
-variable-requires c κs = variable-asked (fits c) (ranged c)
+variable-requires c κs = let x = c .before in variable-asked (fits x) (ranged x)
 
 is-positive-requires : tie.Need-is-positive-requires Inv-loop μ-loop
 is-positive-requires c κs = search needs
 
-assign-requires : tie.Need-assign-requires Inv-loop μ-loop
-assign-requires c κs = let x = c .before .before in variable-bounds (fits x) (ranged x) (c .before .variable .ensures)
+set-to-requires : tie.Need-set-to-requires Inv-loop μ-loop
+set-to-requires c κs = let x = c .before .before .before in variable-bounds (fits x) (ranged x) (c .before .variable .ensures)
 
 add-i : tie.Need-add-i Inv-loop μ-loop
 add-i c = search needs
@@ -70,9 +70,9 @@ loop-less c = search needs
 
 loop-again : tie.Need-loop-again Inv-loop μ-loop
 loop-again c =
-    let x = c .before .before .before in
+    let x = c .before .before .before .before in
     let said-both = ap₂ (upd (assigned (at x .loop .out))) (said natAbs (fits x) (c .before .before .variable .ensures)) (said is-pos (fits x) (c .before .is-positive .ensures)) in
-    (search needs, made-on _ (list x) _ (at x .loop .i) (at x .loop .inv .1) (below x) (ranged x) _ (c .assign .ensures ∙ said-both))
+    (search needs, made-on _ (list x) _ (at x .loop .i) (at x .loop .inv .1) (below x) (ranged x) _ (c .set-to .ensures ∙ said-both))
 
 returns : tie.Need-returns Inv-loop μ-loop
 returns c = made-end _ _ _ _ (c .before .loop .inv .1) (c .loop-test .left)
@@ -88,7 +88,7 @@ make-true-spec =
     shared-slice-copy-out-l
     variable-requires
     is-positive-requires
-    assign-requires
+    set-to-requires
     add-i
     loop-less
     loop-again
