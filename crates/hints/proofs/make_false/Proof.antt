@@ -93,7 +93,7 @@ loop-again c =
     let e = kept-is x (c .before .has-opposite .ensures) in
     ⊎-elim
     (λ w. rw (w .7, w .8, w .9) (making-kept _ _ a (more x) (e ∙ w .0 .taken)
-        (deny-more (state x .loop .opposed) (F x) (l x) (x .before .if1 .taken) (said (opposes (F x)) (l-fits x) (w .3 .ensures)) (said (λ z. also z (F x)) (l-fits x) (w .6 .ensures)))))
+    (deny-more (state x .loop .opposed) (F x) (l x) (x .before .if1 .taken) (said (opposes (F x)) (l-fits x) (w .3 .ensures)) (said (λ z. also z (F x)) (l-fits x) (w .6 .ensures)))))
     (λ w. rw (w .1, w .2, w .3) (making-gone _ _ a (more x) (e ∙ w .0 .left)))
     (c .if2 .came)
 

@@ -35,7 +35,7 @@ module _ (x : tie.After-known-told) where
   found = x .before .before .before
 
   abbrev k : ℕ
-  k = x .before .found .given .0 .0
+  k = x .before .k .given .0 .0
 
   abbrev scope : Scope
   scope = s found .args .scope
@@ -44,7 +44,7 @@ module _ (x : tie.After-known-told) where
   row = row-at (s found .args .rows .now) k
 
   located-at : Located (s found .args .rows .now) (number (s found .args .hint)) (At k)
-  located-at = located found (x .before .found .given .1)
+  located-at = located found (x .before .k .given .1)
 
   names : (b : Bool) → permits scope row ≡ b → (pool : List ℤ) → named (allowed-of scope pool (s found .args .rows .now)) (s found .args .hint) ≡ cond b (clause (clause-part pool row)) nobody
   names b e pool = names-at _ _ (s found .args .hint) (s found .pre .1) pool k (s found .pre .0) located-at ∙ ap (λ b. cond b (clause (clause-part pool row)) nobody) e
@@ -58,8 +58,8 @@ cast-find c = search needs
 find-requires : tie.Need-find-requires
 find-requires c κs = search needs
 
-enum-known-found : tie.Need-enum-known-found
-enum-known-found c = search needs
+enum-known-k : tie.Need-enum-known-k
+enum-known-k c = search needs
 
 enum-told : tie.Need-enum-told
 enum-told c = search needs
@@ -94,7 +94,7 @@ pick-spec =
     number-requires
     cast-find
     find-requires
-    enum-known-found
+    enum-known-k
     enum-told
     returns
     place-at-requires

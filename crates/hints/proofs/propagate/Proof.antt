@@ -25,16 +25,16 @@ use Rattle.hints.proofs.propagate.Statement.{statement}
 use Rattle.hints.proofs.propagate.Tie as tie
 
 abbrev Inv-loop : tie.InvT-loop
-Inv-loop rows pool scope hints verdict₀ plus minus h k c open₀ i₀ verdict «open» i = Scanned (set-of plus minus) c (toZ w32 «open») i × (verdict ≡ verdict₀)
+Inv-loop rows pool scope hints plus minus verdict₀ h k c open₀ i₀ verdict «open» i = Scanned (set-of plus minus) c (toZ w32 «open») i × (verdict ≡ verdict₀)
 
 abbrev μ-loop : tie.MeasureT-loop
-μ-loop rows pool scope hints verdict₀ plus minus h k c open₀ i₀ verdict «open» i = length c - i
+μ-loop rows pool scope hints plus minus verdict₀ h k c open₀ i₀ verdict «open» i = length c - i
 
 abbrev Inv-hints : tie.InvT-hints
-Inv-hints rows pool scope hints verdict₀ plus₀ minus₀ h₀ verdict plus minus h = Running (allowed-of scope pool rows) hints (run (allowed-of scope pool rows) (set-of plus₀ minus₀) 0 hints) (set-of plus minus) verdict h
+Inv-hints rows pool scope hints plus₀ minus₀ verdict₀ h₀ plus minus verdict h = Running (allowed-of scope pool rows) hints (run (allowed-of scope pool rows) (set-of plus₀ minus₀) 0 hints) (set-of plus minus) verdict h
 
 abbrev μ-hints : tie.MeasureT-hints
-μ-hints rows pool scope hints verdict₀ plus₀ minus₀ h₀ verdict plus minus h = length hints - h
+μ-hints rows pool scope hints plus₀ minus₀ verdict₀ h₀ plus minus verdict h = length hints - h
 
 -- the hint, and what it names
 module _ (x : tie.After-pick Inv-loop μ-loop Inv-hints μ-hints) where
@@ -67,8 +67,8 @@ module _ (x : tie.After-clause-of Inv-loop μ-loop Inv-hints μ-hints) where
   abbrev lits : List ℤ
   lits = x .clause-of .result .now
 
-  there : Picked (s looked .args .rows .now) (s looked .args .scope) (hint looked) (At (x .before .before .found .given .0 .0))
-  there = picked looked (x .before .before .found .given .1)
+  there : Picked (s looked .args .rows .now) (s looked .args .scope) (hint looked) (At (x .before .before .k .given .0 .0))
+  there = picked looked (x .before .before .k .given .1)
 
   names : named (A looked) (hint looked) ≡ clause lits
   names = there .1 (s looked .args .pool .now) ∙ ap clause (sym (x .clause-of .ensures))
@@ -125,8 +125,8 @@ shared-slice-copy-out-pick c = search needs
 pick-requires : tie.Need-pick-requires Inv-loop μ-loop Inv-hints μ-hints
 pick-requires c κs = search needs
 
-enum-known-found : tie.Need-enum-known-found Inv-loop μ-loop Inv-hints μ-hints
-enum-known-found c = search needs
+enum-known-k : tie.Need-enum-known-k Inv-loop μ-loop Inv-hints μ-hints
+enum-known-k c = search needs
 
 enum-told : tie.Need-enum-told Inv-loop μ-loop Inv-hints μ-hints
 enum-told c = search needs
@@ -134,7 +134,7 @@ enum-told c = search needs
 clause-of-requires : tie.Need-clause-of-requires Inv-loop μ-loop Inv-hints μ-hints
 clause-of-requires c κs =
     let x = c .before .before .before in
-    let k = picked x (c .before .found .given .1) .0 in
+    let k = picked x (c .before .k .given .1) .0 in
     (k, s x .pre .inside _ k)
 
 loop-holds : tie.Need-loop-holds Inv-loop μ-loop Inv-hints μ-hints
@@ -165,12 +165,13 @@ loop-again : tie.Need-loop-again Inv-loop μ-loop Inv-hints μ-hints
 loop-again c =
     let x = c .before .before .before .before in
     let a = scanned x .loop .inv in
-    let e = false-is x (c .before .has .ensures) in
-    (⊎-elim
-    (λ w. rw (w .6, toZ-ofZ (l-fits x)) (scan-open (a .0) (more-literals x) (bits-zero _ (w .1 .left)) (l-ranged x) (e ∙ not-true (w .0 .taken)) (true-is x (w .4 .ensures) ∙ w .5 .left)))
-    (λ w. rw (w .1) (scan-false (a .0) (more-literals x) (e ∙ not-false (w .0 .left))))
-    (c .if3 .came),
-    a .1)
+    let e = false-is x (c .before .has .ensures) in (
+      ⊎-elim
+          (λ w. rw (w .6, toZ-ofZ (l-fits x)) (scan-open (a .0) (more-literals x) (bits-zero _ (w .1 .left)) (l-ranged x) (e ∙ not-true (w .0 .taken)) (true-is x (w .4 .ensures) ∙ w .5 .left)))
+          (λ w. rw (w .1) (scan-false (a .0) (more-literals x) (e ∙ not-false (w .0 .left))))
+          (c .if3 .came),
+      a .1,
+    )
 
 opposite-requires : tie.Need-opposite-requires Inv-loop μ-loop Inv-hints μ-hints
 opposite-requires c κs = opened-ranged (c .before .before)
@@ -228,7 +229,7 @@ propagate-spec =
     mul-pick
     shared-slice-copy-out-pick
     pick-requires
-    enum-known-found
+    enum-known-k
     enum-told
     clause-of-requires
     loop-holds
