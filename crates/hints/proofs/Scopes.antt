@@ -1,6 +1,6 @@
 -- What the scopes of the steps allow, in the places that the table spells.
 use mathlib.Core.Path.{_≡_, refl, sym, _∙_, ap, fun-ext}
-use mathlib.Core.Bool.{Bool, true, false, not, cond, _&&_, _||_, and-true}
+use mathlib.Core.Bool.{Bool, _||_, and-true}
 use mathlib.Core.List.{List, [], _∷_, _++_, map}
 use Prim.Native.Nat.{ℕ, zero, suc, _<_}
 use native.Mathlib.Omega.{arith}
@@ -13,11 +13,11 @@ use Rattle.rules.specs.Frames.{without}
 use Rattle.rules.specs.Propagation.{Named, nobody, clause, among}
 use Rattle.rules.proofs.Lists.{by-cases}
 use Rattle.table.specs.Facts.{All, none, both, ahead}
-use Rattle.table.specs.Spelled.{Row, id-of, place-of, clause-part, held, stands, clauses, Rising, Readable}
+use Rattle.table.specs.Spelled.{Row, id-of, place-of, held, stands, clauses, Rising, Readable}
 use Rattle.table.proofs.Facts.{all-more, all-indexed}
 use Rattle.hints.specs.Scope.{permits, allowed-of}
 use Rattle.hints.specs.declared.Scope.{Scope}
-use Rattle.hints.proofs.Allowed.{among-cons, through, through-past, through-none, through-here}
+use Rattle.hints.proofs.Allowed.{among-cons, through, through-past, through-here}
 
 only-same : {A : Type 0} {p q : A → Bool} {xs : List A} → All (λ x. p x ≡ q x) xs → only p xs ≡ only q xs
 unfolding only

@@ -1,4 +1,5 @@
-// Propagation by hints. A set of false literals is two arrays: the variables of its positive literals, which are false then, and of its negative ones.
+// Propagation by hints. The false literals are a set in two arrays: `plus` has the variables of its positive literals, which are false, and `minus` those of its
+// negative literals, which are true.
 ghost use mathlib.Core.Path.{_≡_};
 ghost use mathlib.Core.Bool.{true, not};
 ghost use mathlib.Core.List.{map};

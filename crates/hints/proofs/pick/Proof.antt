@@ -1,4 +1,5 @@
-use mathlib.Core.Path.{_≡_, sym, _∙_, ap, subst}
+-- The row of the hint's number, if there is one, is let through by the two tests of `permits`.
+use mathlib.Core.Path.{_≡_, _∙_, ap, subst}
 use mathlib.Core.Bool.{Bool, true, false, cond}
 use mathlib.Core.List.{List}
 use mathlib.Core.Logic.{⊎-elim}
@@ -10,7 +11,7 @@ use Rattle.rules.specs.Frames.{number}
 use Rattle.literal.proofs.Signed.{said}
 use Rattle.table.specs.Spelled.{Row, row-at, clause-part, Located}
 use Rattle.table.specs.declared.Found.{Found}
-use Rattle.table.specs.declared.Found.the-variants.{At, Nothing}
+use Rattle.table.specs.declared.Found.the-variants.{At}
 use Rattle.hints.specs.Scope.{permits, allowed-of}
 use Rattle.hints.specs.declared.Scope.{Scope}
 use Rattle.hints.proofs.Allowed.{permits-far, permits-near, names-none, names-at}

@@ -1,8 +1,10 @@
+-- Before each hint, what is left of the paper's run comes to the whole run; within a clause, what is left of its reading comes to the whole reading.
+-- So each way out of the loops is one law of Runs, with one of Scan.
 use mathlib.Core.Path.{_≡_, refl, sym, _∙_, ap, subst}
-use mathlib.Core.Bool.{Bool, true, false}
+use mathlib.Core.Bool.{Bool, true}
 use mathlib.Core.List.{List}
 use mathlib.Core.Logic.{⊎-elim}
-use Prim.Native.Nat.{ℕ, _+_, _-_, _<_}
+use Prim.Native.Nat.{_-_, _<_}
 use borrow.Author.Needs.{needs}
 use lib.IntN.{ℤ, pos}
 use lib.ListN.{length, getD}
@@ -11,14 +13,13 @@ use mir.Val.{SFits, toZ}
 use mir.Facts.{toZ-ofZ}
 use Rattle.rules.specs.Lists.{all}
 use Rattle.rules.specs.Terms.{Literals, in-range, opposes}
-use Rattle.rules.specs.Propagation.{nobody, clause, Allowed, named, conflict, bad, read, Run, ended, also, run}
-use Rattle.rules.specs.declared.Verdict.the-variants.{Proved, BadHint}
+use Rattle.rules.specs.Propagation.{clause, Allowed, named, also, run}
 use Rattle.rules.proofs.Lists.{not-true, not-false, all-index}
 use Rattle.literal.proofs.Signed.{back, said, zero-bits, bits-zero, opposite-in, opposite-back}
 use Rattle.words.specs.Words.{set-of}
 use Rattle.table.specs.declared.Found.{Found}
-use Rattle.table.specs.declared.Found.the-variants.{At, Nothing}
-use Rattle.hints.specs.Scope.{allowed-of, run-of, Picked}
+use Rattle.table.specs.declared.Found.the-variants.{At}
+use Rattle.hints.specs.Scope.{allowed-of, Picked}
 use Rattle.hints.proofs.Scan.{Scanned, scan-start, scan-false, scan-bad, scan-open, scan-conflict, scan-forced}
 use Rattle.hints.proofs.Runs.{Running, run-used-up, run-nobody, run-conflict, run-bad, run-forced}
 use Rattle.hints.proofs.propagate.Statement.{statement}
