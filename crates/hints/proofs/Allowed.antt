@@ -1,6 +1,6 @@
 -- What an id names in the allowed set, where ids rise.
 use mathlib.Core.Path.{_≡_, refl, sym, _∙_, ap}
-use mathlib.Core.Bool.{Bool, true, false, not, cond}
+use mathlib.Core.Bool.{Bool, false, not, cond}
 use mathlib.Core.List.{List, [], _∷_, map}
 use Prim.Native.Nat.{ℕ, zero, suc, _<_, _≤_}
 use native.Mathlib.Nat.{le-of-suc-le-suc, not-suc-le-zero}
@@ -36,7 +36,7 @@ module _ (p : Row → Bool) (pool : List ℤ) where
   unfolding only
   through-past r rows i e = by-cases (p r) (λ t. rw t (among-cons (held pool r) (map (held pool) (only p rows)) i ∙ rw e)) (λ f. rw f)
 
-  pub through-none : (rows : List Row) (i : ℕ) → All (λ r. id-of r ≡ i → ⊥) rows → through rows i ≡ nobody
+  through-none : (rows : List Row) (i : ℕ) → All (λ r. id-of r ≡ i → ⊥) rows → through rows i ≡ nobody
   unfolding only among any
   through-none [] i none = refl
   through-none (r ∷ rows) i (both h a) = through-past r rows i (ne-eqb (id-of r) i h) ∙ through-none rows i a

@@ -1,6 +1,6 @@
 -- What the scopes of the steps allow, in the places that the table spells.
 use mathlib.Core.Path.{_≡_, refl, sym, _∙_, ap, fun-ext}
-use mathlib.Core.Bool.{Bool, true, false, not, cond, _&&_, _||_, and-true}
+use mathlib.Core.Bool.{Bool, _||_, and-true}
 use mathlib.Core.List.{List, [], _∷_, _++_, map}
 use Prim.Native.Nat.{ℕ, zero, suc, _<_}
 use native.Mathlib.Omega.{arith}
@@ -13,11 +13,11 @@ use Rattle.rules.specs.Frames.{without}
 use Rattle.rules.specs.Propagation.{Named, nobody, clause, among}
 use Rattle.rules.proofs.Lists.{by-cases}
 use Rattle.table.specs.Facts.{All, none, both, ahead}
-use Rattle.table.specs.Spelled.{Row, id-of, place-of, clause-part, held, stands, clauses, Rising, Readable}
+use Rattle.table.specs.Spelled.{Row, id-of, place-of, held, stands, clauses, Rising, Readable}
 use Rattle.table.proofs.Facts.{all-more, all-indexed}
 use Rattle.hints.specs.Scope.{permits, allowed-of}
 use Rattle.hints.specs.declared.Scope.{Scope}
-use Rattle.hints.proofs.Allowed.{among-cons, through, through-past, through-none, through-here}
+use Rattle.hints.proofs.Allowed.{among-cons, through, through-past, through-here}
 
 only-same : {A : Type 0} {p q : A → Bool} {xs : List A} → All (λ x. p x ≡ q x) xs → only p xs ≡ only q xs
 unfolding only
@@ -57,7 +57,7 @@ pub allows-all : {rows : List Row} {pool : List ℤ} → Readable rows pool → 
 unfolding allowed-of
 allows-all {rows} {pool} t =
     let e : only (permits all-clauses) rows ≡ only (λ r. stands 0 r || stands 1 r) rows =
-        only-same (all-more (λ r (h : 0 < id-of r). rw (below-two (place-of r), ne-eqb (id-of r) 0 (λ (z : id-of r ≡ 0). omega arith), and-true (ltb (place-of r) 2))) (all-indexed rows [] (t .positive))) in
+    only-same (all-more (λ r (h : 0 < id-of r). rw (below-two (place-of r), ne-eqb (id-of r) 0 (λ (z : id-of r ≡ 0). omega arith), and-true (ltb (place-of r) 2))) (all-indexed rows [] (t .positive))) in
     fun-ext (λ i. ap (λ rs. among (map (held pool) rs) i) e ∙ sym (merged (stands 0) (stands 1) pool rows i (t .rising)) ∙ sym (among-append (clauses 0 pool rows) (clauses 1 pool rows) i))
 
 -- ---- DROP and WEAKEN: the irredundant clauses but one
@@ -77,8 +77,8 @@ others (r ∷ rows) pool i (ahead a up) =
     let q = below-one (place-of r) in
     rw (← q) (by-cases (stands 0 r)
     (λ t. by-cases (eqb (id-of r) i)
-        (λ e. rw (t, e) (ap (map (held pool)) (only-same (all-more (λ x l. none-left x (λ (z : id-of x ≡ i). let y = eqb-true (id-of r) i e in omega arith)) a))))
-        (λ f. rw (t, f, rest)))
+    (λ e. rw (t, e) (ap (map (held pool)) (only-same (all-more (λ x l. none-left x (λ (z : id-of x ≡ i). let y = eqb-true (id-of r) i e in omega arith)) a))))
+    (λ f. rw (t, f, rest)))
     (λ f. rw (f, rest)))
   where
     none-left : (x : Row) → (id-of x ≡ i → ⊥) → permits (all-but i) x ≡ stands 0 x

@@ -1,4 +1,5 @@
-// Propagation by hints. A set of false literals is two arrays: the variables of its positive literals, which are false then, and of its negative ones.
+// Propagation by hints. The false literals are a set in two arrays: `plus` has the variables of its positive literals, which are false, and `minus` those of its
+// negative literals, which are true.
 ghost use mathlib.Core.Path.{_≡_};
 ghost use mathlib.Core.Bool.{true, not};
 ghost use mathlib.Core.List.{map};
@@ -12,7 +13,6 @@ ghost use Rattle.words.specs.Words.{set-of};
 ghost use Rattle.table.specs.Spelled.{Readable, Rising};
 ghost use Rattle.hints.specs.Target.{judged, make-false, nothing};
 ghost use Rattle.hints.specs.Scope.{Picked, Positive, allowed-of, made-of, run-of};
-
 use rules::Verdict;
 use table::Found;
 
@@ -22,13 +22,12 @@ pub struct Scope {
     pub except: u32,
 }
 
-// The row of the allowed clause that a hint names. No row has the number 0 that a negative word is.
-pub fn pick(rows: &[[u32; 5]], scope: Scope, hint: i32) -> Found
+// The row of the allowed clause that a hint names. A negative word is 0 as a number, and no row has the id 0.
+fn pick(rows: &[[u32; 5]], scope: Scope, hint: i32) -> Found
     requires { ⌜ Rising (now rows) × Positive (now rows) ⌝ }
     ensures { λ r. ⌜ Picked (now (rows .entry)) scope hint r ⌝ }
 {
-    let found = table::find(rows, literal::number(hint) as u32);
-    let Found::At(k) = found else {
+    let Found::At(k) = table::find(rows, literal::number(hint) as u32) else {
         return Found::Nothing;
     };
     if table::place_at(rows, k) < scope.places && table::id_at(rows, k) != scope.except {
@@ -63,19 +62,16 @@ pub fn propagate(
     pool: &[i32],
     scope: Scope,
     hints: &[i32],
-    plus0: [u64; 32],
-    minus0: [u64; 32],
+    mut plus: [u64; 32],
+    mut minus: [u64; 32],
 ) -> Outcome
     requires { ⌜ Readable (now rows) (now pool) ⌝ }
-    ensures { λ r. ⌜ run-of r ≡ run (allowed-of scope (now (pool .entry)) (now (rows .entry))) (set-of plus0 minus0) 0 (now (hints .entry)) ⌝ }
+    ensures { λ r. ⌜ run-of r ≡ run (allowed-of scope (now (pool .entry)) (now (rows .entry))) (set-of plus minus) 0 (now (hints .entry)) ⌝ }
 {
     let mut verdict = Verdict::UsedUp;
-    let mut plus = plus0;
-    let mut minus = minus0;
     let mut h: usize = 0;
     'hints: while h < hints.len() {
-        let found = pick(rows, scope, hints[h]);
-        let Found::At(k) = found else {
+        let Found::At(k) = pick(rows, scope, hints[h]) else {
             verdict = Verdict::BadHint(h);
             break 'hints;
         };
@@ -111,7 +107,7 @@ pub fn propagate(
 }
 
 // A target made false: it holds a literal and its opposite, or these literals are false.
-pub struct Falses {
+struct Falses {
     pub opposed: bool,
     pub plus: [u64; 32],
     pub minus: [u64; 32],
@@ -166,8 +162,7 @@ fn judge(rows: &[[u32; 5]], pool: &[i32], scope: Scope, falses: Falses, hints: &
     let plus = falses.plus;
     let minus = falses.minus;
     let outcome = propagate(rows, pool, scope, hints, plus, minus);
-    let verdict = outcome.verdict;
-    verdict
+    outcome.verdict
 }
 
 pub fn proves(
@@ -213,11 +208,10 @@ pub fn refutes(
     ensures { λ r. ⌜ r ≡ paper.proves (allowed-of scope (now (pool .entry)) (now (rows .entry))) (map negℤ (now (assumed .entry))) (now (hints .entry)) ⌝ }
 {
     let same = falses_of(assumed);
-    let opposed = same.opposed;
     let plus = same.minus;
     let minus = same.plus;
     let falses = Falses {
-        opposed,
+        opposed: same.opposed,
         plus,
         minus,
     };

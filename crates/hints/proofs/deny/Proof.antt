@@ -1,13 +1,13 @@
+-- The bit of its variable is set in the array of its sign.
 use mathlib.Core.Path.{_≡_, sym, _∙_, ap}
+use mathlib.Core.Bool.{true}
 use Prim.Native.Nat.{_≤_}
 use borrow.Author.Needs.{needs}
 use lib.IntN.{natAbs}
-use mathlib.Core.Bool.{true}
 use mir.Facts.{toZ-ofZ}
 use Rattle.rules.specs.Terms.{Assignment, upd}
 use Rattle.literal.specs.Signs.{is-pos}
 use Rattle.literal.proofs.Signed.{sized, said}
-use Rattle.words.specs.Words.{assigned}
 use Rattle.words.proofs.Sets.{also-positive, also-negative}
 use Rattle.hints.proofs.deny.Statement.{statement}
 use Rattle.hints.proofs.deny.Tie as tie

@@ -1,3 +1,4 @@
+-- All literals of c are left, since nothing is taken out.
 use mathlib.Core.Path.{_∙_}
 use Rattle.words.proofs.Sets.{zeros-empty}
 use Rattle.hints.proofs.Target.{less-nothing}

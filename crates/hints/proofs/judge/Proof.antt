@@ -1,4 +1,5 @@
-use mathlib.Core.Path.{_∙_, ap}
+-- The two cases of `judged`.
+use mathlib.Core.Path.{ap}
 use borrow.Author.Needs.{needs}
 use Rattle.hints.proofs.judge.Statement.{statement}
 use Rattle.hints.proofs.judge.Tie as tie

@@ -1,15 +1,16 @@
+-- Before each literal, what is left to be made false comes to the whole.
 use mathlib.Core.Path.{_≡_, refl, sym, _∙_, ap}
-use mathlib.Core.Bool.{Bool, true, false, not, cond}
+use mathlib.Core.Bool.{Bool, true, not, cond}
 use mathlib.Core.List.{List}
 use mathlib.Core.Logic.{⊎-elim}
-use Prim.Native.Nat.{ℕ, _+_, _-_, _<_}
+use Prim.Native.Nat.{ℕ, _-_, _<_}
 use borrow.Author.Needs.{needs}
 use lib.IntN.{ℤ, pos}
 use lib.ListN.{length, getD}
 use mir.Syntax.{w32}
 use mir.Val.{SFits}
 use mir.Facts.{toZ-ofZ}
-use Rattle.rules.specs.Lists.{all, only}
+use Rattle.rules.specs.Lists.{only}
 use Rattle.rules.specs.Terms.{Literals, in-range, opposes}
 use Rattle.rules.specs.Propagation.{also}
 use Rattle.rules.proofs.Lists.{not-false, all-index}
@@ -93,7 +94,7 @@ loop-again c =
     let e = kept-is x (c .before .has-opposite .ensures) in
     ⊎-elim
     (λ w. rw (w .7, w .8, w .9) (making-kept _ _ a (more x) (e ∙ w .0 .taken)
-        (deny-more (state x .loop .opposed) (F x) (l x) (x .before .if1 .taken) (said (opposes (F x)) (l-fits x) (w .3 .ensures)) (said (λ z. also z (F x)) (l-fits x) (w .6 .ensures)))))
+    (deny-more (state x .loop .opposed) (F x) (l x) (x .before .if1 .taken) (said (opposes (F x)) (l-fits x) (w .3 .ensures)) (said (λ z. also z (F x)) (l-fits x) (w .6 .ensures)))))
     (λ w. rw (w .1, w .2, w .3) (making-gone _ _ a (more x) (e ∙ w .0 .left)))
     (c .if2 .came)
 

@@ -1,4 +1,5 @@
-use mathlib.Core.Path.{_≡_, sym, _∙_, ap, subst}
+-- The row of the hint's number, if there is one, is let through by the two tests of `permits`.
+use mathlib.Core.Path.{_≡_, _∙_, ap, subst}
 use mathlib.Core.Bool.{Bool, true, false, cond}
 use mathlib.Core.List.{List}
 use mathlib.Core.Logic.{⊎-elim}
@@ -10,7 +11,7 @@ use Rattle.rules.specs.Frames.{number}
 use Rattle.literal.proofs.Signed.{said}
 use Rattle.table.specs.Spelled.{Row, row-at, clause-part, Located}
 use Rattle.table.specs.declared.Found.{Found}
-use Rattle.table.specs.declared.Found.the-variants.{At, Nothing}
+use Rattle.table.specs.declared.Found.the-variants.{At}
 use Rattle.hints.specs.Scope.{permits, allowed-of}
 use Rattle.hints.specs.declared.Scope.{Scope}
 use Rattle.hints.proofs.Allowed.{permits-far, permits-near, names-none, names-at}
@@ -35,7 +36,7 @@ module _ (x : tie.After-known-told) where
   found = x .before .before .before
 
   abbrev k : ℕ
-  k = x .before .found .given .0 .0
+  k = x .before .k .given .0 .0
 
   abbrev scope : Scope
   scope = s found .args .scope
@@ -44,7 +45,7 @@ module _ (x : tie.After-known-told) where
   row = row-at (s found .args .rows .now) k
 
   located-at : Located (s found .args .rows .now) (number (s found .args .hint)) (At k)
-  located-at = located found (x .before .found .given .1)
+  located-at = located found (x .before .k .given .1)
 
   names : (b : Bool) → permits scope row ≡ b → (pool : List ℤ) → named (allowed-of scope pool (s found .args .rows .now)) (s found .args .hint) ≡ cond b (clause (clause-part pool row)) nobody
   names b e pool = names-at _ _ (s found .args .hint) (s found .pre .1) pool k (s found .pre .0) located-at ∙ ap (λ b. cond b (clause (clause-part pool row)) nobody) e
@@ -58,8 +59,8 @@ cast-find c = search needs
 find-requires : tie.Need-find-requires
 find-requires c κs = search needs
 
-enum-known-found : tie.Need-enum-known-found
-enum-known-found c = search needs
+enum-known-k : tie.Need-enum-known-k
+enum-known-k c = search needs
 
 enum-told : tie.Need-enum-told
 enum-told c = search needs
@@ -94,7 +95,7 @@ pick-spec =
     number-requires
     cast-find
     find-requires
-    enum-known-found
+    enum-known-k
     enum-told
     returns
     place-at-requires

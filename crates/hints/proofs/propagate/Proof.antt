@@ -1,8 +1,10 @@
+-- Before each hint, what is left of the paper's run comes to the whole run; within a clause, what is left of its reading comes to the whole reading.
+-- So each way out of the loops is one law of Runs, with one of Scan.
 use mathlib.Core.Path.{_≡_, refl, sym, _∙_, ap, subst}
-use mathlib.Core.Bool.{Bool, true, false}
+use mathlib.Core.Bool.{Bool, true}
 use mathlib.Core.List.{List}
 use mathlib.Core.Logic.{⊎-elim}
-use Prim.Native.Nat.{ℕ, _+_, _-_, _<_}
+use Prim.Native.Nat.{_-_, _<_}
 use borrow.Author.Needs.{needs}
 use lib.IntN.{ℤ, pos}
 use lib.ListN.{length, getD}
@@ -11,30 +13,29 @@ use mir.Val.{SFits, toZ}
 use mir.Facts.{toZ-ofZ}
 use Rattle.rules.specs.Lists.{all}
 use Rattle.rules.specs.Terms.{Literals, in-range, opposes}
-use Rattle.rules.specs.Propagation.{nobody, clause, Allowed, named, conflict, bad, read, Run, ended, also, run}
-use Rattle.rules.specs.declared.Verdict.the-variants.{Proved, BadHint}
+use Rattle.rules.specs.Propagation.{clause, Allowed, named, also, run}
 use Rattle.rules.proofs.Lists.{not-true, not-false, all-index}
 use Rattle.literal.proofs.Signed.{back, said, zero-bits, bits-zero, opposite-in, opposite-back}
 use Rattle.words.specs.Words.{set-of}
 use Rattle.table.specs.declared.Found.{Found}
-use Rattle.table.specs.declared.Found.the-variants.{At, Nothing}
-use Rattle.hints.specs.Scope.{allowed-of, run-of, Picked}
+use Rattle.table.specs.declared.Found.the-variants.{At}
+use Rattle.hints.specs.Scope.{allowed-of, Picked}
 use Rattle.hints.proofs.Scan.{Scanned, scan-start, scan-false, scan-bad, scan-open, scan-conflict, scan-forced}
 use Rattle.hints.proofs.Runs.{Running, run-used-up, run-nobody, run-conflict, run-bad, run-forced}
 use Rattle.hints.proofs.propagate.Statement.{statement}
 use Rattle.hints.proofs.propagate.Tie as tie
 
 abbrev Inv-loop : tie.InvT-loop
-Inv-loop rows pool scope hints verdict₀ plus minus h k c open₀ i₀ verdict «open» i = Scanned (set-of plus minus) c (toZ w32 «open») i × (verdict ≡ verdict₀)
+Inv-loop rows pool scope hints plus minus verdict₀ h k c open₀ i₀ verdict «open» i = Scanned (set-of plus minus) c (toZ w32 «open») i × (verdict ≡ verdict₀)
 
 abbrev μ-loop : tie.MeasureT-loop
-μ-loop rows pool scope hints verdict₀ plus minus h k c open₀ i₀ verdict «open» i = length c - i
+μ-loop rows pool scope hints plus minus verdict₀ h k c open₀ i₀ verdict «open» i = length c - i
 
 abbrev Inv-hints : tie.InvT-hints
-Inv-hints rows pool scope hints verdict₀ plus₀ minus₀ h₀ verdict plus minus h = Running (allowed-of scope pool rows) hints (run (allowed-of scope pool rows) (set-of plus₀ minus₀) 0 hints) (set-of plus minus) verdict h
+Inv-hints rows pool scope hints plus₀ minus₀ verdict₀ h₀ plus minus verdict h = Running (allowed-of scope pool rows) hints (run (allowed-of scope pool rows) (set-of plus₀ minus₀) 0 hints) (set-of plus minus) verdict h
 
 abbrev μ-hints : tie.MeasureT-hints
-μ-hints rows pool scope hints verdict₀ plus₀ minus₀ h₀ verdict plus minus h = length hints - h
+μ-hints rows pool scope hints plus₀ minus₀ verdict₀ h₀ plus minus verdict h = length hints - h
 
 -- the hint, and what it names
 module _ (x : tie.After-pick Inv-loop μ-loop Inv-hints μ-hints) where
@@ -67,8 +68,8 @@ module _ (x : tie.After-clause-of Inv-loop μ-loop Inv-hints μ-hints) where
   abbrev lits : List ℤ
   lits = x .clause-of .result .now
 
-  there : Picked (s looked .args .rows .now) (s looked .args .scope) (hint looked) (At (x .before .before .found .given .0 .0))
-  there = picked looked (x .before .before .found .given .1)
+  there : Picked (s looked .args .rows .now) (s looked .args .scope) (hint looked) (At (x .before .before .k .given .0 .0))
+  there = picked looked (x .before .before .k .given .1)
 
   names : named (A looked) (hint looked) ≡ clause lits
   names = there .1 (s looked .args .pool .now) ∙ ap clause (sym (x .clause-of .ensures))
@@ -125,8 +126,8 @@ shared-slice-copy-out-pick c = search needs
 pick-requires : tie.Need-pick-requires Inv-loop μ-loop Inv-hints μ-hints
 pick-requires c κs = search needs
 
-enum-known-found : tie.Need-enum-known-found Inv-loop μ-loop Inv-hints μ-hints
-enum-known-found c = search needs
+enum-known-k : tie.Need-enum-known-k Inv-loop μ-loop Inv-hints μ-hints
+enum-known-k c = search needs
 
 enum-told : tie.Need-enum-told Inv-loop μ-loop Inv-hints μ-hints
 enum-told c = search needs
@@ -134,7 +135,7 @@ enum-told c = search needs
 clause-of-requires : tie.Need-clause-of-requires Inv-loop μ-loop Inv-hints μ-hints
 clause-of-requires c κs =
     let x = c .before .before .before in
-    let k = picked x (c .before .found .given .1) .0 in
+    let k = picked x (c .before .k .given .1) .0 in
     (k, s x .pre .inside _ k)
 
 loop-holds : tie.Need-loop-holds Inv-loop μ-loop Inv-hints μ-hints
@@ -165,12 +166,13 @@ loop-again : tie.Need-loop-again Inv-loop μ-loop Inv-hints μ-hints
 loop-again c =
     let x = c .before .before .before .before in
     let a = scanned x .loop .inv in
-    let e = false-is x (c .before .has .ensures) in
-    (⊎-elim
-    (λ w. rw (w .6, toZ-ofZ (l-fits x)) (scan-open (a .0) (more-literals x) (bits-zero _ (w .1 .left)) (l-ranged x) (e ∙ not-true (w .0 .taken)) (true-is x (w .4 .ensures) ∙ w .5 .left)))
-    (λ w. rw (w .1) (scan-false (a .0) (more-literals x) (e ∙ not-false (w .0 .left))))
-    (c .if3 .came),
-    a .1)
+    let e = false-is x (c .before .has .ensures) in (
+      ⊎-elim
+          (λ w. rw (w .6, toZ-ofZ (l-fits x)) (scan-open (a .0) (more-literals x) (bits-zero _ (w .1 .left)) (l-ranged x) (e ∙ not-true (w .0 .taken)) (true-is x (w .4 .ensures) ∙ w .5 .left)))
+          (λ w. rw (w .1) (scan-false (a .0) (more-literals x) (e ∙ not-false (w .0 .left))))
+          (c .if3 .came),
+      a .1,
+    )
 
 opposite-requires : tie.Need-opposite-requires Inv-loop μ-loop Inv-hints μ-hints
 opposite-requires c κs = opened-ranged (c .before .before)
@@ -228,7 +230,7 @@ propagate-spec =
     mul-pick
     shared-slice-copy-out-pick
     pick-requires
-    enum-known-found
+    enum-known-k
     enum-told
     clause-of-requires
     loop-holds

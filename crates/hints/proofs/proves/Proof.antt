@@ -1,3 +1,4 @@
+-- A target made false literal by literal is the paper's.
 use Rattle.hints.proofs.Target.{proved}
 use borrow.Author.Needs.{needs}
 use Rattle.hints.proofs.proves.Statement.{statement}

@@ -1,3 +1,4 @@
+-- The same, in two parts.
 use Rattle.hints.proofs.Target.{in-two-parts, proved}
 use borrow.Author.Needs.{needs}
 use Rattle.hints.proofs.proves_with.Statement.{statement}

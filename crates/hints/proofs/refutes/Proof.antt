@@ -1,3 +1,4 @@
+-- The same, with the two arrays changed over.
 use mathlib.Core.Path.{_∙_, ap}
 use Rattle.hints.proofs.Target.{swapped, made-swapped, refuted}
 use borrow.Author.Needs.{needs}
