@@ -13,10 +13,10 @@ use Rattle.rules.specs.Terms.{is-clause, Held}
 use Rattle.rules.specs.Frames.{Frame, ADD, LEARN, FORGET, PROMOTE, DROP, RESTORE, plain, next}
 use Rattle.table.specs.Facts.{All, none, both}
 use Rattle.table.specs.Spelled.{Row, row-at, id-of, place-of, start-of, length-of, witness-of, size, part, clause-part, witness-part, held, stands, held-rows, from-top, spelled, Inside, Lawful, Listed, Core, Fit, Moved, RowHeld, Entry, entry}
-use Rattle.table.specs.Writes.{written, closed}
+use Rattle.slices.specs.Writes.{written, closed}
 use Rattle.table.specs.declared.Table.{Table}
 use Rattle.table.proofs.Facts.{all-here, all-left, all-right, all-more, all-map, all-unmap, total-cut}
-use Rattle.table.proofs.Slices.{take-next, take-swap, take-closed, length-closed, written-before, written-part, length-written}
+use Rattle.slices.proofs.Slices.{take-next, take-swap, take-closed, length-closed, written-before, written-part, length-written}
 use Rattle.table.proofs.Entries.{spell, clauses-spell, spell-unseen}
 use Rattle.table.proofs.Stacked.{listed-leave}
 use Rattle.table.proofs.Changes.{state-of, entry-of, added, learnt, forgotten, dropped, promoted, restored}

@@ -13,11 +13,11 @@ use Rattle.rules.specs.Terms.{State, is-clause}
 use Rattle.rules.specs.Frames.{Frame, ADD, LEARN, next}
 use Rattle.table.specs.Facts.{All, none, both, Pairs, alone, ahead, total}
 use Rattle.table.specs.Spelled.{Row, row-at, id-of, place-of, start-of, length-of, witness-of, size, part, clause-part, witness-part, held, held-rows, from-top, spelled, Rising, Known, Inside, Clear, Listed, Core, Fit, Moved, Entry, entry}
-use Rattle.table.specs.Writes.{over, written}
+use Rattle.slices.specs.Writes.{over, written}
 use Rattle.table.specs.Room.{pointed, packed, joined, Gathered, Roomy}
 use Rattle.table.specs.declared.Table.{Table}
 use Rattle.table.proofs.Facts.{all-here, all-more, all-map, all-unmap, total-join}
-use Rattle.table.proofs.Slices.{length-over}
+use Rattle.slices.proofs.Slices.{length-over}
 use Rattle.table.proofs.Entries.{spell, clauses-spell}
 use Rattle.table.proofs.Rows.{LawfulEntry}
 use Rattle.table.proofs.Moves.{refit, spelled-is, appended, add-moves, learn-moves}

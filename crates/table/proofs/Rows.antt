@@ -16,7 +16,7 @@ use Rattle.rules.proofs.Lists.{and-left}
 use Rattle.table.specs.Facts.{All, none, both, Pairs, total}
 use Rattle.table.specs.Spelled.{Row, id-of, place-of, start-of, length-of, witness-of, size, part, clause-part, witness-part, held, stands, clauses, Rising, Known, Inside, Clear, Lawful, Listed, Core, Entry, entry}
 use Rattle.table.proofs.Facts.{all-here, all-left, all-right, all-tail, all-join, all-cut, all-put, all-more, all-map, all-unmap, map-same, pairs-before, pairs-after, pairs-cut, pairs-put, total-cut}
-use Rattle.table.proofs.Slices.{part-same}
+use Rattle.slices.proofs.Slices.{part-same}
 use Rattle.table.proofs.Entries.{spell, clauses-spell, spell-unseen}
 use Rattle.table.proofs.Changes.{entry-of}
 

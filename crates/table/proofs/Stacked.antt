@@ -5,15 +5,14 @@ use mathlib.Core.List.{List, [], _∷_, _++_, map}
 use Prim.Native.Nat.{ℕ, _+_, _<_, _≤_}
 use native.Mathlib.Omega.{arith}
 use lib.Dec.{eqb}
-use lib.ListN.{getD}
-use borrow.Author.Tests.{eqb-true, eqb-false, eq-eqb, ne-eqb}
+use borrow.Author.Tests.{eqb-true, eq-eqb, ne-eqb}
 use Rattle.rules.specs.Lists.{any}
 use Rattle.rules.specs.Terms.{Held, has, fetch, tally}
 use Rattle.rules.specs.Frames.{without}
 use Rattle.rules.proofs.Lists.{by-cases, true-false}
 use Rattle.rules.proofs.Places.{fetch-id}
 use Rattle.table.specs.Facts.{All, none, both, Pairs, alone, ahead}
-use Rattle.table.specs.Spelled.{settled, Listed, Among, Entry}
+use Rattle.table.specs.Spelled.{settled, Listed, Entry}
 use Rattle.table.proofs.Facts.{all-left, all-join, all-cut, all-more, all-both, map-same, pairs-before, pairs-after, pairs-cut}
 use Rattle.table.proofs.Places.{has-settled, Single, settled-without}
 use Rattle.table.proofs.Entries.{spell, Before, After, spell-comes, spell-goes, fetch-here, fetch-other, has-here, has-other, has-none}
@@ -109,10 +108,3 @@ module _ (es fs : List Entry) (e : Entry) (q : eqb (e .where-is) 2 ≡ true) (b 
       whole =
         ap settled records-leave ∙ settled-without (map F (xs ++ i ∷ ys)) i (single-named F (listed-named l) (l .once))
         ∙ ap (λ (hs : List Held). without hs i) (l .whole) ∙ sym (spell-goes 2 e q es fs b) }
-
--- ---- the search for an id's place
-
-pub among-below : {ids : List ℕ} {j i : ℕ} → Among ids (j + 1) i → (getD ids j 0 ≡ i → ⊥) → Among ids j i
-among-below {ids} {j} {i} a n = by-cases (eqb (a .index) j)
-    (λ e. absurd (n (ap (λ k. getD ids k 0) (sym (eqb-true (a .index) j e)) ∙ a .named)))
-    (λ e. let d = eqb-false (a .index) j e in let l = a .low in record { index = a .index; low = omega arith; named = a .named })

@@ -12,11 +12,11 @@ use Rattle.rules.specs.Terms.{is-clause, is-witness, distinct, State}
 use Rattle.rules.specs.Frames.{WEAKEN}
 use Rattle.table.specs.Facts.{All}
 use Rattle.table.specs.Spelled.{Row, row-at, id-of, place-of, size, clause-part, witness-part, held, held-rows, from-top, Lawful, Listed, Core, Fit, Moved, Entry, entry}
-use Rattle.table.specs.Writes.{written}
+use Rattle.slices.specs.Writes.{written}
 use Rattle.table.specs.Room.{Roomy, lessened, grown, blank-row}
 use Rattle.table.specs.declared.Table.{Table}
 use Rattle.table.proofs.Facts.{all-here, all-cut, all-unmap}
-use Rattle.table.proofs.Slices.{part-same, split-same, take-next, take-swap, written-before, written-part, length-written}
+use Rattle.slices.proofs.Slices.{part-same, split-same, take-next, take-swap, written-before, written-part, length-written}
 use Rattle.table.proofs.Entries.{spell}
 use Rattle.table.proofs.Stacked.{listed-push}
 use Rattle.table.proofs.Changes.{entry-of, weakened}

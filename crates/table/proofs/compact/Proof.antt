@@ -8,7 +8,7 @@ use Rattle.table.proofs.compact.Tie as tie
 use Rattle.table.proofs.compact.Reads as reads
 use Rattle.table.proofs.compact.Lts as lts
 use Rattle.table.proofs.gather.Reads as gather-reads
-use Rattle.table.proofs.write_literals.Reads as write-literals-reads
+use Rattle.slices.proofs.write_literals.Reads as write-literals-reads
 
 -- src/lib.rt:166:37
 slice-aggregate-gather : tie.Need-slice-aggregate-gather

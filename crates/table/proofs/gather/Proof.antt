@@ -5,7 +5,7 @@ use native.Mathlib.Nat.{add-sub-cancel-left}
 use lib.ListN.{length, take, drop, length-set}
 use Rattle.table.specs.Spelled.{row-at, start-of, size, part, Inside}
 use Rattle.table.specs.Room.{Gathered}
-use Rattle.table.proofs.Slices.{length-tail, tail-written, length-written}
+use Rattle.slices.proofs.Slices.{length-tail, tail-written, length-written}
 use Rattle.table.proofs.Packing.{length-part, inside-here, room-here, gathered-next}
 use borrow.Author.Needs.{needs}
 use Rattle.table.proofs.gather.Statement.{statement}
@@ -13,7 +13,7 @@ use Rattle.table.proofs.gather.Tie as tie
 use Rattle.table.proofs.gather.Reads as reads
 use Rattle.table.proofs.gather.Lts as lts
 use Rattle.table.proofs.wide.Reads as wide-reads
-use Rattle.table.proofs.write_literals.Reads as write-literals-reads
+use Rattle.slices.proofs.write_literals.Reads as write-literals-reads
 
 abbrev Inv-loop : tie.InvT-loop
 Inv-loop rows₀ pool buffer₀ count i₀ at₀ rows buffer i at = Gathered rows₀ pool i at rows buffer × (i ≤ count) × (at ≤ length buffer) × (length rows ≡ length rows₀) × (length buffer ≡ length buffer₀)

@@ -4,8 +4,8 @@ use Rattle.table.proofs.restore.Statement.{statement}
 use Rattle.table.proofs.restore.Tie as tie
 use Rattle.table.proofs.restore.Reads as reads
 use Rattle.table.proofs.restore.Lts as lts
-use Rattle.table.proofs.close_stack.Reads as close-stack-reads
-use Rattle.table.proofs.position.Reads as position-reads
+use Rattle.slices.proofs.close_stack.Reads as close-stack-reads
+use Rattle.slices.proofs.position.Reads as position-reads
 
 -- src/lib.rt:185:15
 mul-row : tie.Need-mul-row

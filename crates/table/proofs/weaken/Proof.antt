@@ -18,7 +18,7 @@ use Rattle.table.proofs.weaken.Lts as lts
 use Rattle.table.proofs.blank.Reads as blank-reads
 use Rattle.table.proofs.make_room.Reads as make-room-reads
 use Rattle.table.proofs.wide.Reads as wide-reads
-use Rattle.table.proofs.write_literals.Reads as write-literals-reads
+use Rattle.slices.proofs.write_literals.Reads as write-literals-reads
 use Rattle.table.proofs.write_record.Reads as write-record-reads
 
 -- the row as it was, and the words of it that are handed on

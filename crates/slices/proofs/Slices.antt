@@ -1,14 +1,15 @@
 -- Slices after a store, a part of one, and what the small writers leave. Nothing here knows of clauses.
 use mathlib.Core.Path.{_≡_, refl, sym, _∙_, ap}
+use mathlib.Core.Logic.{⊎-elim}
 use mathlib.Core.List.{List, [], _∷_, _++_, append-assoc, append-nil}
 use Prim.Native.Nat.{ℕ, zero, suc, _+_, _-_, _<_, _≤_}
-use native.Mathlib.Nat.{sub-self, add-sub-of-le}
+use native.Mathlib.Nat.{sub-self, add-sub-of-le, eq-or-lt-of-le}
 use native.Mathlib.Numerals.{add-one}
 use native.Mathlib.Omega.{arith}
 use lib.ListN.{length, getD, set, take, drop, length-append, length-drop, take-append-drop}
 use lib.Seq.{length-take-le, take-nil, take-all, take-length, take-append-seam, drop-length, take-suc, drop-cons, take-at, drop-at, set-at, append-snoc, getD-append-add, getD-drop, take-take, drop-drop, take-suc-set, take-set-lt, set-split}
 use borrow.Rule.Slice.PartMut.{midOf, postOf, putMid}
-use Rattle.table.specs.Writes.{over, written, closed}
+use Rattle.slices.specs.Writes.{over, written, closed, Among}
 
 module _ {A : Type 0} where
   pub drop-take : (i n : ℕ) (l : List A) → drop i (take n l) ≡ take (n - i) (drop i l)
@@ -138,3 +139,11 @@ module _ {A : Type 0} where
       let a = take-take i n l (omega arith) in
       let b = drop-take (suc i) n l in
       ap (take (n - 1)) (closed-is (n - 1)) ∙ take-at (front (n - 1)) (drop (n - 1) l) (n - 1) (length-front (n - 1) (omega arith) (omega arith)) ∙ rw (a, b, j)
+
+-- ---- the search for a number that is there
+
+pub among-below : {ids : List ℕ} {j i : ℕ} → Among ids (j + 1) i → (getD ids j 0 ≡ i → ⊥) → Among ids j i
+among-below {ids} {j} {i} a n = ⊎-elim
+    (λ e. absurd (n (ap (λ k. getD ids k 0) (sym e) ∙ a .named)))
+    (λ l. record { index = a .index; low = l; named = a .named })
+    (eq-or-lt-of-le (let l = a .low in omega arith))
