@@ -1,8 +1,8 @@
 -- The stack's ids, from the top, and the records that they name; and what they are when an id comes to the top, or leaves from the middle.
 use mathlib.Core.Path.{_≡_, refl, sym, _∙_, ap}
-use mathlib.Core.Bool.{Bool, true, false, cond, _||_, false≢true}
-use mathlib.Core.List.{List, [], _∷_, _++_, map}
-use Prim.Native.Nat.{ℕ, _+_, _<_, _≤_}
+use mathlib.Core.Bool.{true, false≢true}
+use mathlib.Core.List.{List, [], _∷_, _++_, map, List·Memᴰ, List·Memᴰ·head, List·Memᴰ·tail}
+use Prim.Native.Nat.{ℕ, _+_}
 use native.Mathlib.Omega.{arith}
 use lib.Dec.{eqb}
 use borrow.Author.Tests.{eqb-true, eq-eqb, ne-eqb}
@@ -13,7 +13,7 @@ use Rattle.rules.proofs.Lists.{by-cases, true-false}
 use Rattle.rules.proofs.Places.{fetch-id}
 use Rattle.table.specs.Facts.{All, none, both, Pairs, alone, ahead}
 use Rattle.table.specs.Spelled.{settled, Listed, Entry}
-use Rattle.table.proofs.Facts.{all-left, all-join, all-cut, all-more, all-both, map-same, pairs-before, pairs-after, pairs-cut}
+use Rattle.table.proofs.Facts.{all-join, all-cut, all-more, all-both, map-same, pairs-before, pairs-after, pairs-cut}
 use Rattle.table.proofs.Places.{has-settled, Single, settled-without}
 use Rattle.table.proofs.Entries.{spell, Before, After, spell-comes, spell-goes, fetch-here, fetch-other, has-here, has-other, has-none}
 
@@ -47,6 +47,13 @@ module _ (F : ℕ → Held) where
     (λ e. let q : x ≡ i = sym p ∙ eqb-true (F x .id) i e in rw e (omega (arith, tally-absent xs i a (rw q at d))))
     (λ e. rw e (omega (arith, single-named a o i)))
 
+  named-in : (ids : List ℕ) (i : ℕ) → Named ids → has (map F ids) i ≡ true → List·Memᴰ i ids
+  unfolding any
+  named-in [] i none h = absurd (false≢true h)
+  named-in (j ∷ ids) i (both p a) h = by-cases (eqb (F j .id) i)
+    (λ e. List·Memᴰ·head (sym (eqb-true (F j .id) i e) ∙ p))
+    (λ e. List·Memᴰ·tail (named-in ids i a (rw e at h)))
+
 module _ {stacked : List Held} {ids : List ℕ} (l : Listed stacked ids) where
   listed-named : All (λ j. fetch stacked j .id ≡ j) ids
   listed-named = all-more (fetch-id stacked) (l .each)
@@ -54,6 +61,9 @@ module _ {stacked : List Held} {ids : List ℕ} (l : Listed stacked ids) where
   -- what is stacked is on the stack
   pub listed-has : (i : ℕ) → has (map (fetch stacked) ids) i ≡ has stacked i
   listed-has i = sym (has-settled (map (fetch stacked) ids) i) ∙ ap (λ hs. has hs i) (l .whole)
+
+  pub listed-in : (i : ℕ) → has stacked i ≡ true → List·Memᴰ i ids
+  listed-in i h = named-in (fetch stacked) ids i listed-named (listed-has i ∙ h)
 
   pub listed-fetch : (i : ℕ) → has stacked i ≡ true → fetch (map (fetch stacked) ids) i ≡ fetch stacked i
   listed-fetch i h = fetch-named (fetch stacked) ids i listed-named (listed-has i ∙ h)

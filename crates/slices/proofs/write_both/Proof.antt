@@ -6,9 +6,6 @@ use Rattle.slices.proofs.Slices.{tail-written, length-written}
 use borrow.Author.Needs.{needs}
 use Rattle.slices.proofs.write_both.Statement.{statement}
 use Rattle.slices.proofs.write_both.Tie as tie
-use Rattle.slices.proofs.write_both.Reads as reads
-use Rattle.slices.proofs.write_both.Lts as lts
-use Rattle.slices.proofs.write_literals.Reads as write-literals-reads
 
 add-end : tie.Need-add-end
 add-end c = search needs
