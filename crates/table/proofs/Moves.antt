@@ -2,23 +2,23 @@
 use mathlib.Core.Path.{_≡_, refl, sym, _∙_, ap, subst}
 use mathlib.Core.Bool.{true, false}
 use mathlib.Core.List.{List, [], _∷_, _++_, map, map-append, append-nil, reverse, reverse-append, reverse-cons}
-use Prim.Native.Nat.{ℕ, zero, suc, _+_, _-_, _<_, _≤_}
+use Prim.Native.Nat.{ℕ, suc, _+_, _-_, _<_, _≤_}
 use native.Mathlib.Omega.{arith}
 use lib.Dec.{eqb}
 use lib.IntN.{ℤ}
 use lib.ListN.{length, getD, set, take, drop, length-set}
 use lib.Seq.{length-take-le, getD-take, split-at, append-snoc}
 use borrow.Author.Tests.{eq-eqb}
-use Rattle.rules.specs.Terms.{is-clause, Held}
+use Rattle.rules.specs.Terms.{is-clause}
 use Rattle.rules.specs.Frames.{Frame, ADD, LEARN, FORGET, PROMOTE, DROP, RESTORE, plain, next}
-use Rattle.table.specs.Facts.{All, none, both}
+use Rattle.table.specs.Facts.{All, none}
 use Rattle.table.specs.Spelled.{Row, row-at, id-of, place-of, start-of, length-of, witness-of, size, part, clause-part, witness-part, held, stands, held-rows, from-top, spelled, Inside, Lawful, Listed, Core, Fit, Moved, RowHeld, Entry, entry}
-use Rattle.table.specs.Writes.{written, closed}
+use Rattle.slices.specs.Writes.{written, closed, Among}
 use Rattle.table.specs.declared.Table.{Table}
-use Rattle.table.proofs.Facts.{all-here, all-left, all-right, all-more, all-map, all-unmap, total-cut}
-use Rattle.table.proofs.Slices.{take-next, take-swap, take-closed, length-closed, written-before, written-part, length-written}
-use Rattle.table.proofs.Entries.{spell, clauses-spell, spell-unseen}
-use Rattle.table.proofs.Stacked.{listed-leave}
+use Rattle.table.proofs.Facts.{all-here, all-more, all-map, all-unmap, total-cut}
+use Rattle.slices.proofs.Slices.{in-reverse, among-of, take-next, take-swap, take-closed, length-closed, written-before, written-part, length-written}
+use Rattle.table.proofs.Entries.{spell, clauses-spell, spell-unseen, has-here}
+use Rattle.table.proofs.Stacked.{listed-in, listed-leave}
 use Rattle.table.proofs.Changes.{state-of, entry-of, added, learnt, forgotten, dropped, promoted, restored}
 use Rattle.table.proofs.Rows.{lawful-clause, clause-length, clause-short, entries-split, earlier, later, others-clear, own, listed-here, plain-row, listed-cut, core-cut, clear-tail, clear-less, Comes, entries-put, core-put}
 
@@ -244,6 +244,9 @@ module _ {t : Table} {rows : List Row} {pool : List ℤ} {stack : List ℕ} (f :
 
     pub row-short : length-of r ≤ 256
     row-short = omega (arith, clause-length pool r row-inside, clause-short (t .vars) (clause-part pool r) own-clause)
+
+    pub row-stacked : place-of r ≡ 2 → Among stack (t .depth) (id-of r)
+    row-stacked e = among-of (t .depth) stack (in-reverse _ (listed-in (listed-here us r bs core-at) (id-of r) (has-here 2 (entry pool r) (eq-eqb (place-of r) 2 e) es fs)))
 
     -- ---- PROMOTE
 

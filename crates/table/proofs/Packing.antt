@@ -3,21 +3,21 @@ use mathlib.Core.Path.{_≡_, refl, sym, _∙_, ap}
 use mathlib.Core.Logic.{inl, inr}
 use mathlib.Core.Bool.{true}
 use mathlib.Core.List.{List, [], _∷_, _++_, map, append-assoc, append-nil}
-use Prim.Native.Nat.{ℕ, zero, suc, _+_, _-_, _<_, _≤_}
+use Prim.Native.Nat.{ℕ, suc, _+_, _-_, _<_, _≤_}
 use native.Mathlib.Numerals.{add-one}
 use native.Mathlib.Omega.{arith}
 use lib.IntN.{ℤ}
 use lib.ListN.{length, getD, set, take, drop, length-drop, length-append}
-use lib.Seq.{take-append-le, drop-append-le, length-take-le, take-suc, drop-cons, split-at, getD-take, take-at, drop-at, getD-at, set-at, append-snoc, take-take, drop-drop, take-add, take-append-add}
+use lib.Seq.{take-append-le, length-take-le, take-suc, drop-cons, split-at, getD-take, take-at, drop-at, getD-at, set-at, append-snoc, take-take, drop-drop, take-add}
 use Rattle.rules.specs.Terms.{State, is-clause}
 use Rattle.rules.specs.Frames.{Frame, ADD, LEARN, next}
 use Rattle.table.specs.Facts.{All, none, both, Pairs, alone, ahead, total}
-use Rattle.table.specs.Spelled.{Row, row-at, id-of, place-of, start-of, length-of, witness-of, size, part, clause-part, witness-part, held, held-rows, from-top, spelled, Rising, Known, Inside, Clear, Listed, Core, Fit, Moved, Entry, entry}
-use Rattle.table.specs.Writes.{over, written}
+use Rattle.table.specs.Spelled.{Row, row-at, id-of, start-of, length-of, witness-of, size, part, clause-part, witness-part, held-rows, Rising, Inside, Clear, Fit, Moved, Entry, entry}
+use Rattle.slices.specs.Writes.{over, written}
 use Rattle.table.specs.Room.{pointed, packed, joined, Gathered, Roomy}
 use Rattle.table.specs.declared.Table.{Table}
 use Rattle.table.proofs.Facts.{all-here, all-more, all-map, all-unmap, total-join}
-use Rattle.table.proofs.Slices.{length-over}
+use Rattle.slices.proofs.Slices.{length-over}
 use Rattle.table.proofs.Entries.{spell, clauses-spell}
 use Rattle.table.proofs.Rows.{LawfulEntry}
 use Rattle.table.proofs.Moves.{refit, spelled-is, appended, add-moves, learn-moves}

@@ -2,7 +2,7 @@
 use mathlib.Core.Path.{_≡_, refl, sym, _∙_, ap, subst}
 use mathlib.Core.Bool.{true}
 use mathlib.Core.List.{List, [], _∷_, _++_, map, reverse, reverse-append}
-use Prim.Native.Nat.{ℕ, zero, suc, _+_, _-_, _<_, _≤_}
+use Prim.Native.Nat.{ℕ, suc, _+_, _-_, _<_, _≤_}
 use native.Mathlib.Omega.{arith}
 use lib.IntN.{ℤ}
 use lib.ListN.{length, set, take, drop, length-set, length-map}
@@ -10,17 +10,16 @@ use lib.Seq.{length-take-le}
 use Rattle.rules.specs.Lists.{all}
 use Rattle.rules.specs.Terms.{is-clause, is-witness, distinct, State}
 use Rattle.rules.specs.Frames.{WEAKEN}
-use Rattle.table.specs.Facts.{All}
-use Rattle.table.specs.Spelled.{Row, row-at, id-of, place-of, size, clause-part, witness-part, held, held-rows, from-top, Lawful, Listed, Core, Fit, Moved, Entry, entry}
-use Rattle.table.specs.Writes.{written}
+use Rattle.table.specs.Spelled.{Row, row-at, id-of, place-of, size, clause-part, held-rows, from-top, Lawful, Listed, Core, Fit, Moved, Entry, entry}
+use Rattle.slices.specs.Writes.{written}
 use Rattle.table.specs.Room.{Roomy, lessened, grown, blank-row}
 use Rattle.table.specs.declared.Table.{Table}
 use Rattle.table.proofs.Facts.{all-here, all-cut, all-unmap}
-use Rattle.table.proofs.Slices.{part-same, split-same, take-next, take-swap, written-before, written-part, length-written}
+use Rattle.slices.proofs.Slices.{part-same, split-same, take-next, take-swap, written-before, written-part, length-written}
 use Rattle.table.proofs.Entries.{spell}
 use Rattle.table.proofs.Stacked.{listed-push}
 use Rattle.table.proofs.Changes.{entry-of, weakened}
-use Rattle.table.proofs.Rows.{clause-length, witness-length, lawful-clause, earlier, later, own, plain-row, listed-cut, core-cut, clear-tail, Comes, entries-put, core-put}
+use Rattle.table.proofs.Rows.{clause-length, witness-length, earlier, later, plain-row, listed-cut, core-cut, clear-tail, Comes, entries-put, core-put}
 use Rattle.table.proofs.Packing.{roomy-lengths}
 use Rattle.table.proofs.Readers.{count-rows, row-same, depth-below}
 use Rattle.table.proofs.Moves.{refit, moved-by, core-at, size-within, ends, entries-at, own-clause, row-inside, settle-core, settle-entries}
@@ -60,7 +59,7 @@ module _ {t : Table} {rows : List Row} {pool : List ℤ} {stack : List ℕ} (f :
     len₁ : length pool₁ ≡ length pool
     len₁ = length-written pool (t .top) lits (f .pool-fit) (omega arith)
 
-    pub len₂ : length pool₂ ≡ length pool
+    len₂ : length pool₂ ≡ length pool
     len₂ = length-written pool₁ (t .top + length lits) wit (omega (arith, len₁)) (omega (arith, len₁)) ∙ len₁
 
     keeps : take (t .top + length lits) pool₂ ≡ take (t .top + length lits) pool₁
@@ -96,14 +95,14 @@ module _ {t : Table} {rows : List Row} {pool : List ℤ} {stack : List ℕ} (f :
     listed : Listed (spell 2 (es ++ entry pool₂ record-row ∷ fs)) (id-of r ∷ from-top t stack)
     listed = listed-push es fs (entry pool₂ record-row) refl (earlier us r bs k) (later us r bs k) (from-top t stack) (listed-cut us r bs k (rw p))
 
-    pub record-fit : Fit (grown t (length lits + length wit)) (set rows at record-row) pool₂ (set stack (t .depth) (id-of r))
+    record-fit : Fit (grown t (length lits + length wit)) (set rows at record-row) pool₂ (set stack (t .depth) (id-of r))
     record-fit =
       let e = take-swap rows at (t .count) record-row h (f .rows-fit) in
       let o = on-top in
       refit f refl (length-set rows at record-row) len₂ (length-set stack (t .depth) (id-of r)) (f .rows-fit) fits (omega arith)
       (rw (e, o) (core-put us bs others comes (t .words + (length lits + length wit)) (id-of r ∷ from-top t stack) refl listed))
 
-    pub record-entries : map (entry pool₂) (take (t .count) (set rows at record-row)) ≡ es ++ entry-of 2 (id-of r) lits wit ∷ fs
+    record-entries : map (entry pool₂) (take (t .count) (set rows at record-row)) ≡ es ++ entry-of 2 (id-of r) lits wit ∷ fs
     record-entries =
       let e = record-entry in
       ap (map (entry pool₂)) (take-swap rows at (t .count) record-row h (f .rows-fit)) ∙ entries-put us bs others comes ∙ rw e
@@ -150,7 +149,7 @@ module _ {t : Table} {rows : List Row} {pool : List ℤ} {stack : List ℕ} (f :
   entries-were : map (entry pool) (held-rows t rows) ≡ es₁ ++ entry-of 0 (id-of r₁) lits₁ [] ∷ fs₁
   entries-were = let e = plain-row us₁ r₁ bs₁ k₁ 0 (omega arith) p in entries-at f at h ∙ rw e
 
-  pub stack-low : t .depth < t .count
+  stack-low : t .depth < t .count
   stack-low = let n = count-rows f in let e = row-same f at h in depth-below f at (omega arith) (rw e p)
 
   -- ---- room is made, and the record written

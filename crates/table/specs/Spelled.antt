@@ -179,12 +179,6 @@ Located rows i Nothing = (k : ℕ) → k < length rows → id-of (row-at rows k)
 abbrev pub RowHeld : Table → List Row → ℕ → Type 0
 RowHeld t rows at = (at < t .count) × (t .count ≤ length rows) × (size (row-at rows at) ≤ t .words)
 
--- the id is among the first n
-pub record Among (ids : List ℕ) (n i : ℕ) : Type 0 where
-  pub index : ℕ
-  pub low : index < n
-  pub named : getD ids index 0 ≡ i
-
 -- what WEAKEN has been judged by: the row is irredundant, the witness is one, and there is room for it
 pub record Weakenable (t : Table) (rows : List Row) (pool : List ℤ) (at : ℕ) (witness : List ℤ) : Type 0 where
   pub within : at < t .count

@@ -7,9 +7,9 @@ ghost use lib.IntN.{ℤ};
 ghost use lib.ListN.{length, getD, set};
 ghost use Rattle.rules.specs.Terms.{is-clause};
 ghost use Rattle.rules.specs.Frames.{ADD, DROP, FORGET, LEARN, PROMOTE, RESTORE, WEAKEN};
-ghost use Rattle.table.specs.Writes.{closed, over, written};
+ghost use Rattle.slices.specs.Writes.{Among, written};
 ghost use Rattle.table.specs.Room.{Gathered, Roomy, blank-row, grown, lessened};
-ghost use Rattle.table.specs.Spelled.{Among, Fit, Fits, Inside, Located, Moved, Rising, RowHeld, Weakenable, clause-part, id-of, place-of, row-at, size, witness-part};
+ghost use Rattle.table.specs.Spelled.{Fit, Fits, Inside, Located, Moved, Rising, RowHeld, Weakenable, clause-part, id-of, place-of, row-at, size, witness-part};
 
 // What goes beside the lent tables: V, the highest id accepted, how many rows are held, how many words they hold,
 // how many ids are on the stack, and where the pool's unused tail starts.
@@ -88,56 +88,6 @@ pub fn witness_of<'a>(rows: &[[u32; 5]], pool: &'a [i32], k: usize) -> &'a [i32]
 
 // ---- what writers are made of
 
-// The literals over the first words of the tail.
-fn write_literals(tail: &mut [i32], lits: &[i32])
-    requires { ⌜ length (now lits) ≤ length (now tail) ⌝ }
-    ensures { λ _. ⌜ now (tail .exit) ≡ over (now (tail .entry)) (now (lits .entry)) ⌝ }
-{
-    let mut i = 0;
-    while i < lits.len() {
-        tail[i] = lits[i];
-        i += 1;
-    }
-}
-
-// Of the first n rows, those behind `at` move one place down.
-fn close_rows(rows: &mut [[u32; 5]], n: usize, at: usize)
-    requires { ⌜ (n ≤ length (now rows)) × (at < n) ⌝ }
-    ensures { λ _. ⌜ now (rows .exit) ≡ closed (now (rows .entry)) at (n - 1) ⌝ }
-{
-    let mut j = at;
-    let last = n - 1;
-    while j < last {
-        rows[j] = rows[j + 1];
-        j += 1;
-    }
-}
-
-// The same of the stack's ids.
-fn close_stack(stack: &mut [u32], n: usize, at: usize)
-    requires { ⌜ (n ≤ length (now stack)) × (at < n) ⌝ }
-    ensures { λ _. ⌜ now (stack .exit) ≡ closed (now (stack .entry)) at (n - 1) ⌝ }
-{
-    let mut j = at;
-    let last = n - 1;
-    while j < last {
-        stack[j] = stack[j + 1];
-        j += 1;
-    }
-}
-
-// Where the id stands among the first n of the stack: it does, so the search from the top ends at it.
-pub fn position(stack: &[u32], n: usize, id: u32) -> usize
-    requires { ⌜ (n ≤ length (now stack)) × Among (now stack) n id ⌝ }
-    ensures { λ r. ⌜ (r < n) × (getD (now (stack .entry)) r 0 ≡ id) ⌝ }
-{
-    let mut j = n - 1;
-    while stack[j] != id {
-        j -= 1;
-    }
-    j
-}
-
 // All parts, one after the other, into the buffer; each row points to its part there. How many words they are.
 fn gather(rows: &mut [[u32; 5]], t: Table, pool: &[i32], buffer: &mut [i32]) -> usize
     requires { ⌜ Fits t (now rows) (now pool) × (t .words ≤ length (now buffer)) × (length (now buffer) ≤ 8192) ⌝ }
@@ -151,7 +101,7 @@ fn gather(rows: &mut [[u32; 5]], t: Table, pool: &[i32], buffer: &mut [i32]) -> 
         let start = wide(row[2]);
         let size = wide(row[3]) + wide(row[4]);
         let end = start + size;
-        write_literals(&mut buffer[at..], &pool[start..end]);
+        slices::write_literals(&mut buffer[at..], &pool[start..end]);
         rows[i] = [row[0], row[1], at as u32, row[3], row[4]];
         at += size;
         i += 1;
@@ -167,7 +117,7 @@ fn compact(rows: &mut [[u32; 5]], pool: &mut [i32], t: Table) -> Table
 {
     let mut buffer = [0i32; 8192];
     let top = gather(rows, t, pool, &mut buffer);
-    write_literals(pool, &buffer[0..top]);
+    slices::write_literals(pool, &buffer[0..top]);
     Table {
         vars: t.vars,
         highest: t.highest,
@@ -220,9 +170,7 @@ fn write_record(rows: &mut [[u32; 5]], pool: &mut [i32], stack: &mut [u32], t: T
     let id = rows[at][0];
     let top = t.top as usize;
     let depth = t.depth as usize;
-    let end = top + lits.len();
-    write_literals(&mut pool[top..], lits);
-    write_literals(&mut pool[end..], witness);
+    slices::write_both(pool, top, lits, witness);
     let n = lits.len() as u32;
     let w = witness.len() as u32;
     rows[at] = [id, 2, t.top, n, w];
@@ -252,7 +200,7 @@ pub fn append(rows: &mut [[u32; 5]], pool: &mut [i32], t: Table, place: u32, id:
     let top = u.top as usize;
     let n = lits.len() as u32;
     rows[count] = [id, place, u.top, n, 0];
-    write_literals(&mut pool[top..], lits);
+    slices::write_literals(&mut pool[top..], lits);
     Table {
         vars: u.vars,
         highest: id,
@@ -275,7 +223,7 @@ pub fn weaken(rows: &mut [[u32; 5]], pool: &mut [i32], stack: &mut [u32], t: Tab
     let n = wide(row[3]);
     let end = start + n;
     let mut lits = [0i32; 256];
-    write_literals(&mut lits, &pool[start..end]);
+    slices::write_literals(&mut lits, &pool[start..end]);
     let b = blank(rows, t, at);
     let u = make_room(rows, pool, b, n + witness.len());
     write_record(rows, pool, stack, u, at, &lits[0..n], witness)
@@ -291,7 +239,7 @@ pub fn remove(rows: &mut [[u32; 5]], t: Table, at: usize) -> Table
 {
     let n = t.count as usize;
     let row = rows[at];
-    close_rows(rows, n, at);
+    slices::close_rows(rows, n, at);
     Table {
         vars: t.vars,
         highest: t.highest,
@@ -328,8 +276,8 @@ pub fn restore(rows: &mut [[u32; 5]], stack: &mut [u32], t: Table, at: usize) ->
 {
     let row = rows[at];
     let depth = t.depth as usize;
-    let from = position(stack, depth, row[0]);
-    close_stack(stack, depth, from);
+    let from = slices::position(stack, depth, row[0]);
+    slices::close_stack(stack, depth, from);
     rows[at] = [row[0], 0, row[2], row[3], 0];
     Table {
         vars: t.vars,

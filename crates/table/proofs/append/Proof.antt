@@ -1,15 +1,11 @@
 use Prim.Native.Nat.{_+_, _<_, _≤_}
 use native.Mathlib.Omega.{arith}
 use lib.ListN.{length}
-use Rattle.table.proofs.Slices.{length-tail, tail-written}
+use Rattle.slices.proofs.Slices.{length-tail, tail-written}
 use Rattle.table.proofs.Packing.{roomy-lengths, add-after, learn-after}
 use borrow.Author.Needs.{needs}
 use Rattle.table.proofs.append.Statement.{statement}
 use Rattle.table.proofs.append.Tie as tie
-use Rattle.table.proofs.append.Reads as reads
-use Rattle.table.proofs.append.Lts as lts
-use Rattle.table.proofs.make_room.Reads as make-room-reads
-use Rattle.table.proofs.write_literals.Reads as write-literals-reads
 
 -- the numbers after room was made
 module _ (c : tie.After-make-room) where

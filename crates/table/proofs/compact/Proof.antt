@@ -5,44 +5,31 @@ use Rattle.table.proofs.Packing.{compact-roomy}
 use borrow.Author.Needs.{needs}
 use Rattle.table.proofs.compact.Statement.{statement}
 use Rattle.table.proofs.compact.Tie as tie
-use Rattle.table.proofs.compact.Reads as reads
-use Rattle.table.proofs.compact.Lts as lts
-use Rattle.table.proofs.gather.Reads as gather-reads
-use Rattle.table.proofs.write_literals.Reads as write-literals-reads
 
--- src/lib.rt:166:37
 slice-aggregate-gather : tie.Need-slice-aggregate-gather
 slice-aggregate-gather c = search needs
 
--- src/lib.rt:166:9
 gather-requires : tie.Need-gather-requires
 gather-requires c κs = search needs
 
--- src/lib.rt:167:26
 sub-write-literals : tie.Need-sub-write-literals
 sub-write-literals c = search needs
 
--- src/lib.rt:167:26
 part-write-literals-start : tie.Need-part-write-literals-start
 part-write-literals-start c = search needs
 
--- src/lib.rt:167:26
 part-write-literals-end : tie.Need-part-write-literals-end
 part-write-literals-end c = search needs
 
--- src/lib.rt:167:5
 write-literals-requires : tie.Need-write-literals-requires
 write-literals-requires c κs = search needs
 
--- src/lib.rt:160:1
 same-length : tie.Need-same-length
 same-length c = search needs
 
--- src/lib.rt:160:1
 same-length-2 : tie.Need-same-length-2
 same-length-2 c = search needs
 
--- src/lib.rt:160:1
 returns : tie.Need-returns
 returns c =
     let s = c .before .before .before .before .before .before .before .before .before .before .before in

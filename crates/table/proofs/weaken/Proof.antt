@@ -13,13 +13,6 @@ use Rattle.table.proofs.Weakening.{blank-fit, record-numbers, weaken-mo
 use borrow.Author.Needs.{needs}
 use Rattle.table.proofs.weaken.Statement.{statement}
 use Rattle.table.proofs.weaken.Tie as tie
-use Rattle.table.proofs.weaken.Reads as reads
-use Rattle.table.proofs.weaken.Lts as lts
-use Rattle.table.proofs.blank.Reads as blank-reads
-use Rattle.table.proofs.make_room.Reads as make-room-reads
-use Rattle.table.proofs.wide.Reads as wide-reads
-use Rattle.table.proofs.write_literals.Reads as write-literals-reads
-use Rattle.table.proofs.write_record.Reads as write-record-reads
 
 -- the row as it was, and the words of it that are handed on
 module _ (c : tie.After-wide2) where
