@@ -36,19 +36,6 @@ fn pick(rows: &[[u32; 5]], scope: Scope, hint: i32) -> Found
     Found::Nothing
 }
 
-// l becomes false too. Where the arrays stand: by value, both would be copied for each hint.
-fn deny(plus: &mut [u64; 32], minus: &mut [u64; 32], l: i32)
-    requires { ⌜ in-range 2048 l ≡ true ⌝ }
-    ensures { λ r. ⌜ set-of (now (plus .exit)) (now (minus .exit)) ≡ also l (set-of (now (plus .entry)) (now (minus .entry))) ⌝ }
-{
-    let v = literal::variable(l);
-    if literal::is_positive(l) {
-        *plus = words::assign(*plus, v, true);
-    } else {
-        *minus = words::assign(*minus, v, true);
-    }
-}
-
 // How propagation ended, and which literals were false then.
 pub struct Outcome {
     pub verdict: Verdict,
@@ -96,7 +83,7 @@ pub fn propagate(
             }
             i += 1;
         }
-        deny(&mut plus, &mut minus, literal::opposite(open));
+        words::insert(&mut plus, &mut minus, literal::opposite(open));
         h += 1;
     }
     Outcome {
@@ -126,7 +113,7 @@ fn make_false(falses: Falses, c: &[i32], wplus: &[u64; 32], wminus: &[u64; 32]) 
         let l = c[i];
         if !words::has_opposite(wplus, wminus, l) {
             opposed = words::has_opposite(&plus, &minus, l);
-            deny(&mut plus, &mut minus, l);
+            words::insert(&mut plus, &mut minus, l);
         }
         i += 1;
     }

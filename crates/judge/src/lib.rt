@@ -11,7 +11,6 @@ ghost use Rattle.rules.proofs.Propagation.{Stopped};
 ghost use Rattle.words.specs.Words.{assigned};
 ghost use Rattle.table.specs.Spelled.{Fit, spelled};
 ghost use Rattle.judge.specs.Judged.{Located-in, Judges, Offers, check-offered};
-
 use hints::Scope;
 use rules::Check;
 use rules::Fault;
@@ -28,7 +27,14 @@ pub enum Judged {
 // ---- parts of several judgments
 
 // 4: the row of a clause of this place.
-pub fn locate(rows: &[[u32; 5]], pool: &[i32], stack: &[u32], t: Table, place: u32, id: u32) -> Found
+pub fn locate(
+    rows: &[[u32; 5]],
+    pool: &[i32],
+    stack: &[u32],
+    t: Table,
+    place: u32,
+    id: u32,
+) -> Found
     requires { ⌜ Fit t (now rows) (now pool) (now stack) × (place ≤ 2) ⌝ }
     ensures { λ r. ⌜ Located-in t (now (rows .entry)) (now (pool .entry)) place id r ⌝ }
 {
@@ -70,7 +76,14 @@ fn room(rows: &[[u32; 5]], pool: &[i32], stack: &[u32], t: Table, n: usize) -> C
 
 // ---- the operations
 
-pub fn judge_add(rows: &[[u32; 5]], pool: &[i32], stack: &[u32], t: Table, id: u32, c: &[i32]) -> Check
+pub fn judge_add(
+    rows: &[[u32; 5]],
+    pool: &[i32],
+    stack: &[u32],
+    t: Table,
+    id: u32,
+    c: &[i32],
+) -> Check
     requires { ⌜ Fit t (now rows) (now pool) (now stack) × (length (now c) ≤ 256) ⌝ }
     ensures { λ r. ⌜ r ≡ paper.check-add (spelled t (now (rows .entry)) (now (pool .entry)) (now (stack .entry))) id (now (c .entry)) ⌝ }
 {
@@ -93,7 +106,15 @@ pub fn judge_add(rows: &[[u32; 5]], pool: &[i32], stack: &[u32], t: Table, id: u
     room(rows, pool, stack, t, c.len())
 }
 
-pub fn judge_learn(rows: &[[u32; 5]], pool: &[i32], stack: &[u32], t: Table, id: u32, c: &[i32], hints: &[i32]) -> Check
+pub fn judge_learn(
+    rows: &[[u32; 5]],
+    pool: &[i32],
+    stack: &[u32],
+    t: Table,
+    id: u32,
+    c: &[i32],
+    hints: &[i32],
+) -> Check
     requires { ⌜ Fit t (now rows) (now pool) (now stack) × (length (now c) ≤ 256) × (length (now hints) ≤ 4096) ⌝ }
     ensures { λ r. ⌜ r ≡ paper.check-learn (spelled t (now (rows .entry)) (now (pool .entry)) (now (stack .entry))) id (now (c .entry)) (now (hints .entry)) ⌝ }
 {
@@ -109,7 +130,10 @@ pub fn judge_learn(rows: &[[u32; 5]], pool: &[i32], stack: &[u32], t: Table, id:
         return Check::Failed(f);
     }
     let n = t.count as usize;
-    let scope = Scope { places: 2, except: 0 };
+    let scope = Scope {
+        places: 2,
+        except: 0,
+    };
     let verdict = hints::proves(&rows[..n], pool, scope, c, hints);
     decided(verdict, 3 + c.len(), 0)
 }
@@ -125,7 +149,14 @@ pub fn judge_learned(rows: &[[u32; 5]], pool: &[i32], stack: &[u32], t: Table, i
     Judged::Accepted(k)
 }
 
-pub fn judge_drop(rows: &[[u32; 5]], pool: &[i32], stack: &[u32], t: Table, id: u32, hints: &[i32]) -> Judged
+pub fn judge_drop(
+    rows: &[[u32; 5]],
+    pool: &[i32],
+    stack: &[u32],
+    t: Table,
+    id: u32,
+    hints: &[i32],
+) -> Judged
     requires { ⌜ Fit t (now rows) (now pool) (now stack) × (length (now hints) ≤ 4096) ⌝ }
     ensures { λ r. ⌜ Judges t (now (rows .entry)) 0 id (paper.check-drop (spelled t (now (rows .entry)) (now (pool .entry)) (now (stack .entry))) id (now (hints .entry))) r ⌝ }
 {
@@ -133,7 +164,10 @@ pub fn judge_drop(rows: &[[u32; 5]], pool: &[i32], stack: &[u32], t: Table, id: 
         return Judged::Refused(Fault::Id(id));
     };
     let n = t.count as usize;
-    let scope = Scope { places: 1, except: id };
+    let scope = Scope {
+        places: 1,
+        except: id,
+    };
     let c = table::clause_of(rows, pool, k);
     let verdict = hints::proves(&rows[..n], pool, scope, c, hints);
     let check = decided(verdict, 2, 0);
@@ -170,7 +204,14 @@ pub struct Offer {
 }
 
 // 11, 5, 10 of an offered assignment.
-fn judge_offered(rows: &[[u32; 5]], pool: &[i32], stack: &[u32], t: Table, assumed: &[i32], offered: &[u64; 32]) -> Check
+fn judge_offered(
+    rows: &[[u32; 5]],
+    pool: &[i32],
+    stack: &[u32],
+    t: Table,
+    assumed: &[i32],
+    offered: &[u64; 32],
+) -> Check
     requires { ⌜ Fit t (now rows) (now pool) (now stack) × (length (now assumed) ≤ 256) × (all (in-range 2048) (now assumed) ≡ true) ⌝ }
     ensures { λ r. ⌜ r ≡ check-offered (spelled t (now (rows .entry)) (now (pool .entry)) (now (stack .entry))) (assigned (now (offered .entry))) (now (assumed .entry)) ⌝ }
 {
@@ -190,7 +231,14 @@ fn judge_offered(rows: &[[u32; 5]], pool: &[i32], stack: &[u32], t: Table, assum
     walk::satisfied(&rows[..n], pool, offered)
 }
 
-pub fn judge_sat(rows: &[[u32; 5]], pool: &[i32], stack: &[u32], t: Table, assumed: &[i32], vs: &[i32]) -> Offer
+pub fn judge_sat(
+    rows: &[[u32; 5]],
+    pool: &[i32],
+    stack: &[u32],
+    t: Table,
+    assumed: &[i32],
+    vs: &[i32],
+) -> Offer
     requires { ⌜ Fit t (now rows) (now pool) (now stack) × (length (now assumed) ≤ 256) × (length (now vs) ≤ 4096) ⌝ }
     ensures { λ r. ⌜ (r .check ≡ paper.check-sat (spelled t (now (rows .entry)) (now (pool .entry)) (now (stack .entry))) (now (assumed .entry)) (now (vs .entry))) × Offers (now (vs .entry)) (r .check) (r .offered) ⌝ }
 {
@@ -198,18 +246,31 @@ pub fn judge_sat(rows: &[[u32; 5]], pool: &[i32], stack: &[u32], t: Table, assum
     let vars = t.vars as usize;
     let flaw = clause::ranged(vars, assumed, 2);
     if let Check::Failed(f) = flaw {
-        return Offer { check: Check::Failed(f), offered: none };
+        return Offer {
+            check: Check::Failed(f),
+            offered: none,
+        };
     }
     let fall = clause::ascending(vars, vs, 2 + assumed.len());
     if let Check::Failed(f) = fall {
-        return Offer { check: Check::Failed(f), offered: none };
+        return Offer {
+            check: Check::Failed(f),
+            offered: none,
+        };
     }
     let offered = words::offer(vs);
     let check = judge_offered(rows, pool, stack, t, assumed, &offered);
     Offer { check, offered }
 }
 
-pub fn judge_unsat(rows: &[[u32; 5]], pool: &[i32], stack: &[u32], t: Table, assumed: &[i32], hints: &[i32]) -> Check
+pub fn judge_unsat(
+    rows: &[[u32; 5]],
+    pool: &[i32],
+    stack: &[u32],
+    t: Table,
+    assumed: &[i32],
+    hints: &[i32],
+) -> Check
     requires { ⌜ Fit t (now rows) (now pool) (now stack) × (length (now assumed) ≤ 256) × (length (now hints) ≤ 4096) ⌝ }
     ensures { λ r. ⌜ r ≡ paper.check-unsat (spelled t (now (rows .entry)) (now (pool .entry)) (now (stack .entry))) (now (assumed .entry)) (now (hints .entry)) ⌝ }
 {
@@ -218,7 +279,10 @@ pub fn judge_unsat(rows: &[[u32; 5]], pool: &[i32], stack: &[u32], t: Table, ass
         return Check::Failed(f);
     }
     let n = t.count as usize;
-    let scope = Scope { places: 2, except: 0 };
+    let scope = Scope {
+        places: 2,
+        except: 0,
+    };
     let verdict = hints::refutes(&rows[..n], pool, scope, assumed, hints);
     decided(verdict, 2 + assumed.len(), 0)
 }

@@ -2,11 +2,11 @@
 pub mod Facts
 pub mod Places
 pub mod Entries
+pub mod Finding
 pub mod Stacked
 pub mod Changes
 pub mod Rows
 pub mod Moves
-pub mod Finding
 pub mod Packing
 pub mod Readers
 pub mod Weakening

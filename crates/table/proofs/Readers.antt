@@ -23,6 +23,7 @@ use Rattle.table.specs.declared.Found.the-variants.{Nothing}
 use Rattle.table.proofs.Facts.{all-index, all-indexed, all-unreverse, all-join, all-more, all-map, pairs-before, pairs-after}
 use Rattle.table.proofs.Places.{length-settled, room-settled}
 use Rattle.table.proofs.Entries.{spell, clauses-spell, spell-unseen, has-here, has-none, fetch-here}
+use Rattle.table.proofs.Finding as finding
 use Rattle.table.proofs.Stacked.{listed-has, listed-fetch}
 use Rattle.table.proofs.Rows.{clause-length, witness-length, lawful-placed, lawful-clause, lawful-witness, clause-short}
 
@@ -153,45 +154,18 @@ module _ {t : Table} {rows : List Row} {pool : List ℤ} {stack : List ℕ} (f :
 
   -- ---- what was found
 
-  -- no row has the id: no place has it
   pub nowhere : (i : ℕ) → Located rs i Nothing → (p : ℕ) → has (clauses p pool rs) i ≡ false
-  nowhere i n p = let e = clauses-spell p pool rs in rw e (has-none p i _ (all-map (entry pool) rs (all-indexed rs [] n)))
+  nowhere = finding.nowhere pool rs
 
   module _ (k : ℕ) (h : k < length rs) where
     abbrev r : Row
     r = row-at rs k
 
-    abbrev es : List Entry
-    es = map (entry pool) (take k rs)
-
-    abbrev fs : List Entry
-    fs = map (entry pool) (drop (suc k) rs)
-
-    split-rows : rs ≡ take k rs ++ r ∷ drop (suc k) rs
-    split-rows = split-at rs k [] h
-
-    split : (p : ℕ) → clauses p pool rs ≡ spell p (es ++ entry pool r ∷ fs)
-    split p = clauses-spell p pool rs ∙ ap (λ l. spell p (map (entry pool) l)) split-rows ∙ ap (spell p) (map-append (entry pool) (take k rs) (r ∷ drop (suc k) rs))
-
-    earlier : All (λ a. a .what .id < id-of r) es
-    earlier = let e = split-rows in all-map (entry pool) _ (pairs-before (take k rs) r (drop (suc k) rs) (rw e at (f .core .rising)))
-
-    later : All (λ a. id-of r < a .what .id) fs
-    later = let e = split-rows in all-map (entry pool) _ (pairs-after (take k rs) r (drop (suc k) rs) (rw e at (f .core .rising)))
-
-    others : All (λ a. a .what .id ≡ id-of r → ⊥) (es ++ fs)
-    others = all-join (all-more (λ a l (z : a .what .id ≡ id-of r). omega arith) earlier) (all-more (λ a l (z : a .what .id ≡ id-of r). omega arith) later)
-
-    -- the clause of a row stands in the place that the row says, and in no other
     pub has-at : (p : ℕ) → has (clauses p pool rs) (id-of r) ≡ stands p r
-    has-at p =
-        let e = split p in
-        by-cases (stands p r)
-        (λ q. rw (e, q) (has-here p (entry pool r) q es fs))
-        (λ q. let u = spell-unseen p (entry pool r) q es fs in rw (e, q, u) (has-none p (id-of r) _ others))
+    has-at = finding.has-at pool rs (f .core .rising) k h
 
     pub fetch-at : (p : ℕ) → place-of r ≡ p → fetch (clauses p pool rs) (id-of r) ≡ held pool r
-    fetch-at p q = let e = split p in rw e (fetch-here p (entry pool r) (eq-eqb (place-of r) p q) es fs earlier)
+    fetch-at = finding.fetch-at pool rs (f .core .rising) k h
 
     pub stack-has-at : has (s .stack) (id-of r) ≡ stands 2 r
     stack-has-at = listed-has (f .core .listed) (id-of r) ∙ has-at 2

@@ -78,8 +78,8 @@ has-opposite-requires c κs = ranged c
 has-opposite-requires-2 : tie.Need-has-opposite-requires-2 Inv-loop μ-loop
 has-opposite-requires-2 c κs = ranged (c .before .before .before .before)
 
-deny-requires : tie.Need-deny-requires Inv-loop μ-loop
-deny-requires c κs = ranged (c .before .before .before .before .before .before .before)
+insert-requires : tie.Need-insert-requires Inv-loop μ-loop
+insert-requires c κs = ranged (c .before .before .before .before .before .before .before)
 
 add-i : tie.Need-add-i Inv-loop μ-loop
 add-i c = search needs
@@ -115,7 +115,7 @@ make-false-spec =
     shared-slice-copy-out-l
     has-opposite-requires
     has-opposite-requires-2
-    deny-requires
+    insert-requires
     add-i
     loop-less
     loop-again

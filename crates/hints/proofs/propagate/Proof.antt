@@ -177,8 +177,8 @@ loop-again c =
 opposite-requires : tie.Need-opposite-requires Inv-loop μ-loop Inv-hints μ-hints
 opposite-requires c κs = opened-ranged (c .before .before)
 
-deny-requires : tie.Need-deny-requires Inv-loop μ-loop Inv-hints μ-hints
-deny-requires c κs = let y = c .before .before .before in rw (opposite-back (opened y) _ (opened-ranged y) (c .opposite .ensures)) (opposite-in 2048 (opened y) (opened-ranged y))
+insert-requires : tie.Need-insert-requires Inv-loop μ-loop Inv-hints μ-hints
+insert-requires c κs = let y = c .before .before .before in rw (opposite-back (opened y) _ (opened-ranged y) (c .opposite .ensures)) (opposite-in 2048 (opened y) (opened-ranged y))
 
 add-h : tie.Need-add-h Inv-loop μ-loop Inv-hints μ-hints
 add-h c = search needs
@@ -193,7 +193,7 @@ hints-again c =
     let x = a .before in
     let n = opposite-back (opened y) _ (opened-ranged y) (c .before .opposite .ensures) in
     rw (a .loop .inv .1)
-    (run-forced (outer (looked x) .hints .inv) (more-hints (looked x)) _ (names x) (scan-forced (a .loop .inv .0) (y .before .if1 .taken) (not-zero y)) (c .deny .ensures ∙ ap (λ u. also u (F x)) n))
+    (run-forced (outer (looked x) .hints .inv) (more-hints (looked x)) _ (names x) (scan-forced (a .loop .inv .0) (y .before .if1 .taken) (not-zero y)) (c .insert .ensures ∙ ap (λ u. also u (F x)) n))
 
 returns : tie.Need-returns Inv-loop μ-loop Inv-hints μ-hints
 returns c = run-used-up (c .before .hints .inv) (search needs)
@@ -243,7 +243,7 @@ propagate-spec =
     loop-less
     loop-again
     opposite-requires
-    deny-requires
+    insert-requires
     add-h
     hints-less
     hints-again

@@ -42,20 +42,20 @@ module _ (c : tie.After-make-room) where
   r₁ = row-at (c .before .before .before .before .before .before .before .before .before .before .before .before .before .before .before .args .rows .now) (c .before .before .before .before .before .before .before .before .before .before .before .before .before .before .before .args .at)
 
   roomy : Roomy (lessened (c .before .before .before .before .before .before .before .before .before .before .before .before .before .before .before .args .t) (size r₁)) (set (c .before .before .before .before .before .before .before .before .before .before .before .before .before .before .before .args .rows .now) (c .before .before .before .before .before .before .before .before .before .before .before .before .before .before .before .args .at) (blank-row r₁)) (c .before .before .before .before .before .before .before .before .before .before .before .before .before .before .before .args .pool .now) (c .before .before .before .before .before .before .before .before .before .before .before .before .before .before .before .args .stack .now)
-    (c .make-room .result) (c .make-room .last .0) (c .make-room .last .1 .0) (length-of r₁ + length (c .before .before .before .before .before .before .before .before .before .before .before .before .before .before .before .args .witness .now))
+      (c .make-room .result) (c .make-room .last .0) (c .make-room .last .1 .0) (length-of r₁ + length (c .before .before .before .before .before .before .before .before .before .before .before .before .before .before .before .args .witness .now))
   roomy =
-    let a = c .before .before .before .before .blank .ensures .0 in
-    let b = c .before .before .before .before .blank .ensures .1 in
-    let w = c .before .before .before .before .before .before .before .before .before .before .before .wide2 .ensures in
-    rw (a, b, w) at (c .make-room .ensures (c .before .before .before .before .before .before .before .before .before .before .before .before .before .before .before .args .stack .now) (blanked (c .before .before .before .before)))
+      let a = c .before .before .before .before .blank .ensures .0 in
+      let b = c .before .before .before .before .blank .ensures .1 in
+      let w = c .before .before .before .before .before .before .before .before .before .before .before .wide2 .ensures in
+      rw (a, b, w) at (c .make-room .ensures (c .before .before .before .before .before .before .before .before .before .before .before .before .before .before .before .args .stack .now) (blanked (c .before .before .before .before)))
 
   copied : take (c .before .before .before .before .before .before .before .before .before .before .before .wide2 .result - 0) (c .before .before .before .before .before .before .before .write-literals .last .0) ≡ clause-part (c .before .before .before .before .before .before .before .before .before .before .before .before .before .before .before .args .pool .now) r₁
   copied =
-    let z : c .before .before .before .before .before .before .before .before .before .before .before .wide2 .result - 0 ≡ c .before .before .before .before .before .before .before .before .before .before .before .wide2 .result = omega arith in
-    let w = c .before .before .before .before .before .before .before .write-literals .ensures in
-    let s = handed (c .before .before .before .before .before .before .before .before .before .before .before) in
-    let l = clause-length (c .before .before .before .before .before .before .before .before .before .before .before .before .before .before .before .args .pool .now) r₁ (inside (c .before .before .before .before .before .before .before .before .before .before .before)) in
-    rw (z, w, s) (take-at (clause-part (c .before .before .before .before .before .before .before .before .before .before .before .before .before .before .before .args .pool .now) r₁) _ (c .before .before .before .before .before .before .before .before .before .before .before .wide2 .result) (l ∙ sym (c .before .before .before .before .before .before .before .before .before .before .before .wide2 .ensures)))
+      let z : c .before .before .before .before .before .before .before .before .before .before .before .wide2 .result - 0 ≡ c .before .before .before .before .before .before .before .before .before .before .before .wide2 .result = omega arith in
+      let w = c .before .before .before .before .before .before .before .write-literals .ensures in
+      let s = handed (c .before .before .before .before .before .before .before .before .before .before .before) in
+      let l = clause-length (c .before .before .before .before .before .before .before .before .before .before .before .before .before .before .before .args .pool .now) r₁ (inside (c .before .before .before .before .before .before .before .before .before .before .before)) in
+      rw (z, w, s) (take-at (clause-part (c .before .before .before .before .before .before .before .before .before .before .before .before .before .before .before .args .pool .now) r₁) _ (c .before .before .before .before .before .before .before .before .before .before .before .wide2 .result) (l ∙ sym (c .before .before .before .before .before .before .before .before .before .before .before .wide2 .ensures)))
 
   fits : length (clause-part (c .before .before .before .before .before .before .before .before .before .before .before .before .before .before .before .args .pool .now) r₁) + length (c .before .before .before .before .before .before .before .before .before .before .before .before .before .before .before .args .witness .now) ≤ length-of r₁ + length (c .before .before .before .before .before .before .before .before .before .before .before .before .before .before .before .args .witness .now)
   fits = omega (arith, clause-length (c .before .before .before .before .before .before .before .before .before .before .before .before .before .before .before .args .pool .now) r₁ (inside (c .before .before .before .before .before .before .before .before .before .before .before)))
