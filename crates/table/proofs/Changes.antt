@@ -3,11 +3,11 @@ use mathlib.Core.Path.{_≡_, refl, _∙_}
 use mathlib.Core.List.{List, [], _∷_, _++_, map}
 use Prim.Native.Nat.{ℕ, _<_}
 use lib.IntN.{ℤ}
-use Rattle.rules.specs.Terms.{Held, State, fetch}
+use Rattle.rules.specs.Terms.{State, fetch}
 use Rattle.rules.specs.Frames.{ADD, LEARN, FORGET, PROMOTE, DROP, WEAKEN, RESTORE, next}
 use Rattle.table.specs.Facts.{All}
-use Rattle.table.specs.Spelled.{Row, clauses, Listed}
-use Rattle.table.proofs.Entries.{Entry, entry, spell, clauses-spell, spell-unseen, spell-comes, spell-goes, fetch-here, has-here}
+use Rattle.table.specs.Spelled.{Listed, Entry}
+use Rattle.table.proofs.Entries.{spell, spell-unseen, spell-comes, spell-goes, fetch-here, has-here}
 use Rattle.table.proofs.Stacked.{listed-fetch, records-push, records-leave}
 
 -- the state that entries by rising id and the ids of the stack, from the top, spell

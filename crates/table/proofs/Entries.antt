@@ -1,27 +1,19 @@
 -- A row with its part of the pool, as one entry; what a list of entries by rising id spells; and what it spells when one entry comes or goes.
 -- The list is split at the entry, es ++ e ∷ fs: so each change is two laws, for the entry that goes and for the one that comes.
-use mathlib.Core.Path.{_≡_, refl, sym, _∙_, ap}
-use mathlib.Core.Bool.{Bool, true, false, cond}
+use mathlib.Core.Path.{_≡_, refl, sym}
+use mathlib.Core.Bool.{true, false, cond}
 use mathlib.Core.List.{List, [], _∷_, _++_, map}
-use Prim.Native.Nat.{ℕ, zero, suc, _+_, _<_, _≤_}
+use Prim.Native.Nat.{ℕ, _+_, _<_}
 use native.Mathlib.Omega.{arith}
-use lib.Dec.{eqb, ltb}
+use lib.Dec.{eqb}
 use lib.IntN.{ℤ}
 use borrow.Author.Tests.{lt-ltb, le-ltb, eq-eqb, ne-eqb}
 use Rattle.rules.specs.Lists.{any, only}
 use Rattle.rules.specs.Terms.{Held, has, fetch}
 use Rattle.rules.specs.Frames.{without, place}
 use Rattle.rules.proofs.Lists.{by-cases}
-use Rattle.table.specs.Facts.{All, none, both}
-use Rattle.table.specs.Spelled.{Row, place-of, stands, held, clauses}
-
--- a clause or a record, and the place that it stands in
-pub record Entry : Type 0 where
-  pub where-is : ℕ
-  pub what : Held
-
-abbrev pub entry : List ℤ → Row → Entry
-entry pool r = record { where-is = place-of r; what = held pool r }
+use Rattle.table.specs.Facts.{All, both}
+use Rattle.table.specs.Spelled.{Row, stands, Entry, entry, clauses}
 
 -- the clauses of the place p
 unfoldable pub spell : ℕ → List Entry → List Held

@@ -1,5 +1,5 @@
 -- Laws of a fact of each element, and of every two. Nothing here knows of clauses.
-use mathlib.Core.Path.{_≡_, refl, sym, ap, subst}
+use mathlib.Core.Path.{_≡_, refl, sym, subst}
 use mathlib.Core.List.{List, [], _∷_, _++_, map, reverse, reverse-cons}
 use Prim.Native.Nat.{ℕ, zero, suc, _+_, _<_}
 use native.Mathlib.Omega.{arith}
@@ -8,7 +8,7 @@ use lib.Dec.{eqb}
 use lib.ListN.{length, getD}
 use borrow.Author.Tests.{eqb-true, eqb-false}
 use Rattle.rules.proofs.Lists.{by-cases}
-use Rattle.table.specs.Facts.{All, none, both, Pairs, alone, ahead, total}
+use Rattle.table.specs.Facts.{All, none, both, Pairs, ahead, total}
 
 -- a fact of the numbers below, and of one more
 pub below-next : {P : ℕ → Type 0} (k : ℕ) → ((j : ℕ) → j < k → P j) → P k → (j : ℕ) → j < k + 1 → P j
@@ -29,7 +29,7 @@ module _ {A : Type 0} {P : A → Type 0} where
   pub all-head : {x : A} {xs : List A} → All P (x ∷ xs) → P x
   all-head (both p a) = p
 
-  pub all-tail : {x : A} {xs : List A} → All P (x ∷ xs) → All P xs
+  all-tail : {x : A} {xs : List A} → All P (x ∷ xs) → All P xs
   all-tail (both p a) = a
 
   pub all-join : {xs ys : List A} → All P xs → All P ys → All P (xs ++ ys)

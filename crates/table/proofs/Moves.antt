@@ -2,32 +2,36 @@
 use mathlib.Core.Path.{_≡_, refl, sym, _∙_, ap, subst}
 use mathlib.Core.Bool.{true, false}
 use mathlib.Core.List.{List, [], _∷_, _++_, map, map-append, append-nil, reverse, reverse-append, reverse-cons}
-use Prim.Native.Nat.{ℕ, zero, suc, _+_, _-_, _<_, _≤_}
+use Prim.Native.Nat.{ℕ, suc, _+_, _-_, _<_, _≤_}
 use native.Mathlib.Omega.{arith}
 use lib.Dec.{eqb}
 use lib.IntN.{ℤ}
 use lib.ListN.{length, getD, set, take, drop, length-set}
 use lib.Seq.{length-take-le, getD-take, split-at, append-snoc}
 use borrow.Author.Tests.{eq-eqb}
-use Rattle.rules.specs.Terms.{is-clause, Held}
+use Rattle.rules.specs.Terms.{is-clause}
 use Rattle.rules.specs.Frames.{Frame, ADD, LEARN, FORGET, PROMOTE, DROP, RESTORE, plain, next}
-use Rattle.table.specs.Facts.{All, none, both}
-use Rattle.table.specs.Spelled.{Row, row-at, id-of, place-of, start-of, length-of, witness-of, size, part, clause-part, witness-part, held, stands, held-rows, from-top, spelled, Inside, Lawful, Listed, Core, Fit, Moved}
-use Rattle.table.specs.Writes.{written, closed}
+use Rattle.table.specs.Facts.{All, none}
+use Rattle.table.specs.Spelled.{Row, row-at, id-of, place-of, start-of, length-of, witness-of, size, part, clause-part, witness-part, held, stands, held-rows, from-top, spelled, Inside, Lawful, Listed, Core, Fit, Moved, RowHeld, Entry, entry}
+use Rattle.slices.specs.Writes.{written, closed, Among}
 use Rattle.table.specs.declared.Table.{Table}
-use Rattle.table.proofs.Facts.{all-here, all-left, all-right, all-more, all-map, all-unmap, total-cut}
-use Rattle.table.proofs.Slices.{take-next, take-swap, take-closed, length-closed, written-before, written-part, length-written}
-use Rattle.table.proofs.Entries.{Entry, entry, spell, clauses-spell, spell-unseen}
-use Rattle.table.proofs.Stacked.{listed-leave}
+use Rattle.table.proofs.Facts.{all-here, all-more, all-map, all-unmap, total-cut}
+use Rattle.slices.proofs.Slices.{in-reverse, among-of, take-next, take-swap, take-closed, length-closed, written-before, written-part, length-written}
+use Rattle.table.proofs.Entries.{spell, clauses-spell, spell-unseen, has-here}
+use Rattle.table.proofs.Stacked.{listed-in, listed-leave}
 use Rattle.table.proofs.Changes.{state-of, entry-of, added, learnt, forgotten, dropped, promoted, restored}
-use Rattle.table.proofs.Rows.{lawful-clause, entries-split, earlier, later, others-clear, own, listed-here, plain-row, listed-cut, core-cut, clear-tail, clear-less, Comes, entries-put, core-put}
+use Rattle.table.proofs.Rows.{lawful-clause, clause-length, clause-short, entries-split, earlier, later, others-clear, own, listed-here, plain-row, listed-cut, core-cut, clear-tail, clear-less, Comes, entries-put, core-put}
 
-spelled-is : (t : Table) (rows : List Row) (pool : List ℤ) (stack : List ℕ) → spelled t rows pool stack ≡ state-of (t .vars) (t .highest) (length rows) (length pool) (map (entry pool) (held-rows t rows)) (from-top t stack)
+pub spelled-is : (t : Table) (rows : List Row) (pool : List ℤ) (stack : List ℕ) → spelled t rows pool stack ≡ state-of (t .vars) (t .highest) (length rows) (length pool) (map (entry pool) (held-rows t rows)) (from-top t stack)
 spelled-is t rows pool stack =
     let a = clauses-spell 0 pool (held-rows t rows) in
     let b = clauses-spell 1 pool (held-rows t rows) in
     let c = clauses-spell 2 pool (held-rows t rows) in
     rw (a, b, c)
+
+-- the table with a clause of n words more
+abbrev pub appended : Table → ℕ → ℕ → Table
+appended t id n = record { vars = t .vars; highest = id; count = t .count + 1; words = t .words + n; depth = t .depth; top = t .top + n }
 
 module _ {t : Table} {rows : List Row} {pool : List ℤ} {stack : List ℕ} (f : Fit t rows pool stack) where
   -- the lent slices are as long as they were, and V is what it was
@@ -67,9 +71,6 @@ module _ {t : Table} {rows : List Row} {pool : List ℤ} {stack : List ℕ} (f :
     abbrev pool′ : List ℤ
     pool′ = written pool (t .top) lits
 
-    abbrev appended : Table
-    appended = record { vars = t .vars; highest = id; count = t .count + 1; words = t .words + length lits; depth = t .depth; top = t .top + length lits }
-
     new-entry : (p : ℕ) → entry pool′ (new-row p) ≡ entry-of p id lits []
     new-entry p = let e = written-part pool (t .top) lits (f .pool-fit) in rw e
 
@@ -105,7 +106,7 @@ module _ {t : Table} {rows : List Row} {pool : List ℤ} {stack : List ℕ} (f :
       abbrev rows′ : List Row
       rows′ = set rows (t .count) (new-row p)
 
-      append-fit : Fit appended rows′ pool′ stack
+      append-fit : Fit (appended t id (length lits)) rows′ pool′ stack
       append-fit =
         let e = take-next rows (t .count) (new-row p) room in
         refit refl (length-set rows (t .count) (new-row p)) (length-written pool (t .top) lits (f .pool-fit) fits) refl (omega arith) fits (f .stack-fit)
@@ -113,7 +114,7 @@ module _ {t : Table} {rows : List Row} {pool : List ℤ} {stack : List ℕ} (f :
 
       append-moves : {g : Frame} → state-of (t .vars) id (length rows) (length pool) (map (entry pool) hr ++ entry-of p id lits [] ∷ []) (from-top t stack)
           ≡ next (state-of (t .vars) (t .highest) (length rows) (length pool) (map (entry pool) hr ++ []) (from-top t stack)) g →
-        Moved t rows pool stack appended rows′ pool′ stack g
+        Moved t rows pool stack (appended t id (length lits)) rows′ pool′ stack g
       append-moves e =
         let h = take-next rows (t .count) (new-row p) room in
         let x = entries-put hr [] all-rows (comes p l) in
@@ -121,11 +122,11 @@ module _ {t : Table} {rows : List Row} {pool : List ℤ} {stack : List ℕ} (f :
         let n = append-nil (map (entry pool) hr) in
         moved-by append-fit (length-set rows (t .count) (new-row p)) (length-written pool (t .top) lits (f .pool-fit) fits) (rw (h, x, y) (rw n at e))
 
-    pub add-moves : Moved t rows pool stack appended (set rows (t .count) (new-row 0)) pool′ stack (ADD id lits)
+    pub add-moves : Moved t rows pool stack (appended t id (length lits)) (set rows (t .count) (new-row 0)) pool′ stack (ADD id lits)
     unfolding Lawful
     add-moves = append-moves 0 (ok, refl) refl (added (t .vars) (t .highest) (length rows) (length pool) (map (entry pool) hr) [] (from-top t stack) id lits (all-map (entry pool) hr below) none)
 
-    pub learn-moves : (hints : List ℤ) → Moved t rows pool stack appended (set rows (t .count) (new-row 1)) pool′ stack (LEARN id lits hints)
+    pub learn-moves : (hints : List ℤ) → Moved t rows pool stack (appended t id (length lits)) (set rows (t .count) (new-row 1)) pool′ stack (LEARN id lits hints)
     unfolding Lawful
     learn-moves hints = append-moves 1 (ok, refl) refl (learnt (t .vars) (t .highest) (length rows) (length pool) (map (entry pool) hr) [] (from-top t stack) id lits (all-map (entry pool) hr below) none hints)
 
@@ -231,8 +232,21 @@ module _ {t : Table} {rows : List Row} {pool : List ℤ} {stack : List ℕ} (f :
     abbrev settled-row : Row
     settled-row = id-of r ∷ 0 ∷ start-of r ∷ length-of r ∷ 0 ∷ []
 
-    own-clause : is-clause (t .vars) (clause-part pool r) ≡ true
+    pub own-clause : is-clause (t .vars) (clause-part pool r) ≡ true
     own-clause = lawful-clause (t .vars) (place-of r) (held pool r) (own us r bs core-at)
+
+    -- what the code asks of the row
+    pub row-held : RowHeld t rows at
+    row-held = (h, f .rows-fit, size-within)
+
+    pub row-inside : Inside (length pool) r
+    row-inside = omega (arith, ends, f .pool-fit)
+
+    pub row-short : length-of r ≤ 256
+    row-short = omega (arith, clause-length pool r row-inside, clause-short (t .vars) (clause-part pool r) own-clause)
+
+    pub row-stacked : place-of r ≡ 2 → Among stack (t .depth) (id-of r)
+    row-stacked e = among-of (t .depth) stack (in-reverse _ (listed-in (listed-here us r bs core-at) (id-of r) (has-here 2 (entry pool r) (eq-eqb (place-of r) 2 e) es fs)))
 
     -- ---- PROMOTE
 

@@ -1,8 +1,8 @@
 -- Laws of places by rising id, where a clause comes by `place` and goes by `without`.
-use mathlib.Core.Path.{_≡_, refl, sym, _∙_, ap}
-use mathlib.Core.Bool.{Bool, true, false, cond, _&&_, _||_}
+use mathlib.Core.Path.{_≡_, refl, sym, _∙_}
+use mathlib.Core.Bool.{true, false, _||_}
 use mathlib.Core.List.{List, [], _∷_}
-use Prim.Native.Nat.{ℕ, suc, _+_, _<_, _≤_}
+use Prim.Native.Nat.{ℕ, _+_, _≤_}
 use native.Mathlib.Omega.{arith}
 use lib.Dec.{eqb, ltb}
 use lib.ListN.{length}
@@ -10,8 +10,8 @@ use borrow.Author.Tests.{ltb-true, eqb-true, lt-ltb, eq-eqb}
 use Rattle.rules.specs.Lists.{any, all}
 use Rattle.rules.specs.Terms.{Held, has, room, tally, rising}
 use Rattle.rules.specs.Frames.{without, place}
-use Rattle.rules.proofs.Lists.{by-cases, and-left, and-right, all-at, all-of, all-head}
-use Rattle.rules.proofs.Places.{one, words-of, later, tally-place, length-place, room-place, rising-place}
+use Rattle.rules.proofs.Lists.{by-cases, and-left, and-right, all-head}
+use Rattle.rules.proofs.Places.{later, tally-place, length-place, room-place, rising-place}
 use Rattle.table.specs.Spelled.{settled}
 
 has-place : (x : Held) (hs : List Held) (i : ℕ) → has (place x hs) i ≡ (eqb (x .id) i || has hs i)

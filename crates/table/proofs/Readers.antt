@@ -1,30 +1,30 @@
 -- What readers may lean on: the counts, what was found at a row, and that clauses and witnesses obey Terms.
-use mathlib.Core.Path.{_≡_, refl, sym, _∙_, ap, subst}
-use mathlib.Core.Bool.{Bool, true, false, cond, _&&_}
+use mathlib.Core.Path.{_≡_, refl, sym, _∙_, ap}
+use mathlib.Core.Bool.{true, false, cond}
 use mathlib.Core.List.{List, [], _∷_, _++_, map, map-append, reverse, reverse-append}
 use Prim.Native.Nat.{ℕ, zero, suc, _+_, _-_, _<_, _≤_}
 use native.Mathlib.Omega.{arith}
 use native.Mathlib.Numerals.{add-one}
 use lib.Dec.{eqb, ltb, leb}
 use lib.IntN.{ℤ, pos, negsuc}
-use lib.ListN.{length, getD, take, drop, length-append, length-drop, length-map, length-reverse}
+use lib.ListN.{length, getD, take, drop, length-append, length-map, length-reverse}
 use lib.Seq.{length-take-le, getD-take, split-at, take-suc}
-use borrow.Author.Tests.{ltb-true, lt-ltb, leb-true, eq-eqb}
-use Rattle.rules.specs.Lists.{any, all, only}
-use Rattle.rules.specs.Terms.{in-range, distinct, is-clause, is-witness, Held, State, has, fetch, everything, room}
+use borrow.Author.Tests.{ltb-true, lt-ltb, eq-eqb}
+use Rattle.rules.specs.Lists.{all, only}
+use Rattle.rules.specs.Terms.{in-range, distinct, is-clause, Held, State, has, fetch, everything, room}
 use Rattle.rules.specs.Answers.{need, free-entry, free-words}
 use Rattle.rules.specs.declared.Fault.the-variants.{NoEntry, NoWords}
-use Rattle.rules.proofs.Lists.{by-cases, and-left, and-right, all-at, all-of, all-nil}
-use Rattle.rules.proofs.Places.{words-of, room-append}
+use Rattle.rules.proofs.Lists.{by-cases, and-left, and-right, all-at, all-of}
+use Rattle.rules.proofs.Places.{words-of, length-without, room-append}
 use Rattle.table.specs.Facts.{All, none, both, total}
-use Rattle.table.specs.Spelled.{Row, row-at, id-of, place-of, start-of, length-of, witness-of, size, part, clause-part, witness-part, held, stands, clauses, held-rows, from-top, spelled, Inside, Lawful, settled, Listed, Core, Fit, Readable, Located}
+use Rattle.table.specs.Spelled.{Row, row-at, id-of, place-of, size, held, stands, clauses, held-rows, from-top, spelled, Inside, Fit, Readable, Located, Entry, entry}
 use Rattle.table.specs.declared.Table.{Table}
 use Rattle.table.specs.declared.Found.the-variants.{Nothing}
-use Rattle.table.proofs.Facts.{all-index, all-indexed, all-unreverse, all-join, all-more, all-both, all-map, pairs-before, pairs-after}
+use Rattle.table.proofs.Facts.{all-index, all-indexed, all-unreverse, all-join, all-more, all-map, pairs-before, pairs-after}
 use Rattle.table.proofs.Places.{length-settled, room-settled}
-use Rattle.table.proofs.Entries.{Entry, entry, spell, clauses-spell, spell-unseen, has-here, has-none, fetch-here}
+use Rattle.table.proofs.Entries.{spell, clauses-spell, spell-unseen, has-here, has-none, fetch-here}
 use Rattle.table.proofs.Stacked.{listed-has, listed-fetch}
-use Rattle.table.proofs.Rows.{clause-length, witness-length, lawful-placed, lawful-clause, lawful-witness}
+use Rattle.table.proofs.Rows.{clause-length, witness-length, lawful-placed, lawful-clause, lawful-witness, clause-short}
 
 -- ---- each row stands in one of the three places: a number of each, summed over the places, is summed over the rows
 
@@ -74,10 +74,6 @@ clause-ranged v c h k =
     let r = and-left (all (in-range v) c) (distinct c) (and-right (leb (length c) 256) _ k) in
     all-of _ c (λ l m. in-range-more v 2048 l h (all-at _ r m))
 
-clause-short : (v : ℕ) (c : List ℤ) → is-clause v c ≡ true → length c ≤ 256
-unfolding is-clause
-clause-short v c k = leb-true (length c) 256 (and-left (leb (length c) 256) _ k)
-
 -- ---- the ids below an index of the stack, from the top
 
 pub from-top-next : (stack : List ℕ) (j : ℕ) → j < length stack → reverse (take (j + 1) stack) ≡ getD stack j 0 ∷ reverse (take j stack)
@@ -95,8 +91,8 @@ module _ {t : Table} {rows : List Row} {pool : List ℤ} {stack : List ℕ} (f :
   pub count-rows : length rs ≡ t .count
   count-rows = length-take-le (t .count) rows (f .rows-fit)
 
-  pub row-held : (k : ℕ) → k < t .count → row-at rs k ≡ row-at rows k
-  row-held k h = getD-take (t .count) rows k [] h
+  pub row-same : (k : ℕ) → k < t .count → row-at rs k ≡ row-at rows k
+  row-same k h = getD-take (t .count) rows k [] h
 
   in-pool : All (Inside (length pool)) rs
   in-pool = let b = f .pool-fit in all-more (λ r h. omega arith) (f .core .inside)
@@ -125,9 +121,15 @@ module _ {t : Table} {rows : List Row} {pool : List ℤ} {stack : List ℕ} (f :
   depth-held : length (s .stack) ≡ length (clauses 2 pool rs)
   depth-held = sym (length-settled (s .stack)) ∙ ap length (f .core .listed .whole)
 
+  depth-is : length (s .stack) ≡ t .depth
+  depth-is = length-map (from-top t stack) _ ∙ length-reverse (take (t .depth) stack) ∙ length-take-le (t .depth) stack (f .stack-fit)
+
+  count-places : length (clauses 0 pool rs) + length (clauses 1 pool rs) + length (clauses 2 pool rs) ≡ t .count
+  count-places = over-places (λ h. 1) length refl (λ h hs. omega arith) pool rs placed ∙ total-ones rs ∙ count-rows
+
   pub count-held : length (everything s) ≡ t .count
   count-held =
-      omega (arith, length-append (s .irredundant) (s .learned ++ s .stack), length-append (s .learned) (s .stack), depth-held, over-places (λ h. 1) length refl (λ h hs. omega arith) pool rs placed, total-ones rs, count-rows)
+      omega (arith, length-append (s .irredundant) (s .learned ++ s .stack), length-append (s .learned) (s .stack), depth-held, count-places)
 
   pub words-held : room (everything s) ≡ t .words
   words-held =
@@ -196,6 +198,10 @@ module _ {t : Table} {rows : List Row} {pool : List ℤ} {stack : List ℕ} (f :
 
     pub stack-fetch-at : place-of r ≡ 2 → fetch (s .stack) (id-of r) ≡ held pool r
     stack-fetch-at q = listed-fetch (f .core .listed) (id-of r) (has-at 2 ∙ eq-eqb (place-of r) 2 q) ∙ fetch-at 2 q
+
+    -- where a clause is not stacked, the stack is not full
+    pub depth-below : place-of r ≡ 0 → t .depth < t .count
+    depth-below q = omega (arith, length-without (id-of r) (clauses 0 pool rs) (has-at 0 ∙ eq-eqb (place-of r) 0 q), depth-is, depth-held, count-places)
 
   -- ---- the stack
 

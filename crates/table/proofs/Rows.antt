@@ -1,5 +1,5 @@
 -- Rows and pool as lists, split at the row that goes or comes: what the invariant needs of it.
-use mathlib.Core.Path.{_≡_, refl, sym, _∙_, ap}
+use mathlib.Core.Path.{_≡_, _∙_, ap}
 use mathlib.Core.Logic.{_⊎_, inl, inr, ⊎-elim}
 use mathlib.Core.Bool.{true, false}
 use mathlib.Core.List.{List, [], _∷_, _++_, map, map-append}
@@ -8,14 +8,16 @@ use native.Mathlib.Omega.{arith}
 use lib.IntN.{ℤ}
 use lib.ListN.{length, take, drop, length-drop}
 use lib.Seq.{length-take-le}
+use lib.Dec.{leb}
+use borrow.Author.Tests.{leb-true}
 use Rattle.rules.specs.Lists.{all}
 use Rattle.rules.specs.Terms.{Held, is-clause, is-witness, distinct}
 use Rattle.rules.proofs.Lists.{and-left}
-use Rattle.table.specs.Facts.{All, none, both, Pairs, total}
-use Rattle.table.specs.Spelled.{Row, id-of, place-of, start-of, length-of, witness-of, size, part, clause-part, witness-part, held, stands, clauses, Rising, Known, Inside, Clear, Lawful, Listed, Core}
-use Rattle.table.proofs.Facts.{all-here, all-left, all-right, all-tail, all-join, all-cut, all-put, all-more, all-map, all-unmap, map-same, pairs-before, pairs-after, pairs-cut, pairs-put, total-cut}
-use Rattle.table.proofs.Slices.{part-same}
-use Rattle.table.proofs.Entries.{Entry, entry, spell, clauses-spell, spell-unseen}
+use Rattle.table.specs.Facts.{All}
+use Rattle.table.specs.Spelled.{Row, id-of, place-of, start-of, length-of, witness-of, size, part, clause-part, witness-part, held, stands, Known, Inside, Clear, Lawful, Listed, Core, Entry, entry}
+use Rattle.table.proofs.Facts.{all-here, all-left, all-right, all-join, all-cut, all-put, all-more, all-map, all-unmap, map-same, pairs-before, pairs-after, pairs-cut, pairs-put, total-cut}
+use Rattle.slices.proofs.Slices.{part-same}
+use Rattle.table.proofs.Entries.{spell, clauses-spell, spell-unseen}
 use Rattle.table.proofs.Changes.{entry-of}
 
 -- ---- a part that lies inside the pool is as long as its row says
@@ -55,6 +57,10 @@ module _ (vars : ℕ) where
   lawful-witness (suc (suc zero)) h l = and-left (is-clause vars (h .witness)) _ (l .1)
   lawful-witness (suc (suc (suc p))) h l = absurd l
 
+pub clause-short : (v : ℕ) (c : List ℤ) → is-clause v c ≡ true → length c ≤ 256
+unfolding is-clause
+clause-short v c k = leb-true (length c) 256 (and-left (leb (length c) 256) _ k)
+
 -- ---- pools that agree below top
 
 entry-same : (p q : List ℤ) (top : ℕ) (r : Row) → take top q ≡ take top p → Inside top r → entry q r ≡ entry p r
@@ -63,7 +69,7 @@ entry-same p q top r e h =
     let b = part-same p q top (start-of r + length-of r) (witness-of r) e (omega arith) in
     rw (a, b)
 
-pub entries-same : (p q : List ℤ) (top : ℕ) {rows : List Row} → take top q ≡ take top p → All (Inside top) rows → map (entry q) rows ≡ map (entry p) rows
+entries-same : (p q : List ℤ) (top : ℕ) {rows : List Row} → take top q ≡ take top p → All (Inside top) rows → map (entry q) rows ≡ map (entry p) rows
 entries-same p q top e a = map-same (all-more (λ r h. entry-same p q top r e h) a)
 
 -- ---- parts that do not overlap

@@ -1,22 +1,21 @@
 -- The stack's ids, from the top, and the records that they name; and what they are when an id comes to the top, or leaves from the middle.
 use mathlib.Core.Path.{_≡_, refl, sym, _∙_, ap}
-use mathlib.Core.Bool.{Bool, true, false, cond, _||_, false≢true}
-use mathlib.Core.List.{List, [], _∷_, _++_, map}
-use Prim.Native.Nat.{ℕ, _+_, _<_, _≤_}
+use mathlib.Core.Bool.{true, false≢true}
+use mathlib.Core.List.{List, [], _∷_, _++_, map, List·Memᴰ, List·Memᴰ·head, List·Memᴰ·tail}
+use Prim.Native.Nat.{ℕ, _+_}
 use native.Mathlib.Omega.{arith}
 use lib.Dec.{eqb}
-use lib.ListN.{getD}
-use borrow.Author.Tests.{eqb-true, eqb-false, eq-eqb, ne-eqb}
+use borrow.Author.Tests.{eqb-true, eq-eqb, ne-eqb}
 use Rattle.rules.specs.Lists.{any}
 use Rattle.rules.specs.Terms.{Held, has, fetch, tally}
 use Rattle.rules.specs.Frames.{without}
 use Rattle.rules.proofs.Lists.{by-cases, true-false}
 use Rattle.rules.proofs.Places.{fetch-id}
 use Rattle.table.specs.Facts.{All, none, both, Pairs, alone, ahead}
-use Rattle.table.specs.Spelled.{settled, Listed, Among}
-use Rattle.table.proofs.Facts.{all-left, all-join, all-cut, all-more, all-both, map-same, pairs-before, pairs-after, pairs-cut}
+use Rattle.table.specs.Spelled.{settled, Listed, Entry}
+use Rattle.table.proofs.Facts.{all-join, all-cut, all-more, all-both, map-same, pairs-before, pairs-after, pairs-cut}
 use Rattle.table.proofs.Places.{has-settled, Single, settled-without}
-use Rattle.table.proofs.Entries.{Entry, spell, Before, After, spell-comes, spell-goes, fetch-here, fetch-other, has-here, has-other, has-none}
+use Rattle.table.proofs.Entries.{spell, Before, After, spell-comes, spell-goes, fetch-here, fetch-other, has-here, has-other, has-none}
 
 -- ---- F is the record of an id
 
@@ -48,6 +47,13 @@ module _ (F : ℕ → Held) where
     (λ e. let q : x ≡ i = sym p ∙ eqb-true (F x .id) i e in rw e (omega (arith, tally-absent xs i a (rw q at d))))
     (λ e. rw e (omega (arith, single-named a o i)))
 
+  named-in : (ids : List ℕ) (i : ℕ) → Named ids → has (map F ids) i ≡ true → List·Memᴰ i ids
+  unfolding any
+  named-in [] i none h = absurd (false≢true h)
+  named-in (j ∷ ids) i (both p a) h = by-cases (eqb (F j .id) i)
+    (λ e. List·Memᴰ·head (sym (eqb-true (F j .id) i e) ∙ p))
+    (λ e. List·Memᴰ·tail (named-in ids i a (rw e at h)))
+
 module _ {stacked : List Held} {ids : List ℕ} (l : Listed stacked ids) where
   listed-named : All (λ j. fetch stacked j .id ≡ j) ids
   listed-named = all-more (fetch-id stacked) (l .each)
@@ -55,6 +61,9 @@ module _ {stacked : List Held} {ids : List ℕ} (l : Listed stacked ids) where
   -- what is stacked is on the stack
   pub listed-has : (i : ℕ) → has (map (fetch stacked) ids) i ≡ has stacked i
   listed-has i = sym (has-settled (map (fetch stacked) ids) i) ∙ ap (λ hs. has hs i) (l .whole)
+
+  pub listed-in : (i : ℕ) → has stacked i ≡ true → List·Memᴰ i ids
+  listed-in i h = named-in (fetch stacked) ids i listed-named (listed-has i ∙ h)
 
   pub listed-fetch : (i : ℕ) → has stacked i ≡ true → fetch (map (fetch stacked) ids) i ≡ fetch stacked i
   listed-fetch i h = fetch-named (fetch stacked) ids i listed-named (listed-has i ∙ h)
@@ -109,10 +118,3 @@ module _ (es fs : List Entry) (e : Entry) (q : eqb (e .where-is) 2 ≡ true) (b 
       whole =
         ap settled records-leave ∙ settled-without (map F (xs ++ i ∷ ys)) i (single-named F (listed-named l) (l .once))
         ∙ ap (λ (hs : List Held). without hs i) (l .whole) ∙ sym (spell-goes 2 e q es fs b) }
-
--- ---- the search for an id's place
-
-pub among-below : {ids : List ℕ} {j i : ℕ} → Among ids (j + 1) i → (getD ids j 0 ≡ i → ⊥) → Among ids j i
-among-below {ids} {j} {i} a n = by-cases (eqb (a .index) j)
-    (λ e. absurd (n (ap (λ k. getD ids k 0) (sym (eqb-true (a .index) j e)) ∙ a .named)))
-    (λ e. let d = eqb-false (a .index) j e in let l = a .low in record { index = a .index; low = omega arith; named = a .named })

@@ -56,6 +56,14 @@ witness-part pool r = part pool (start-of r + length-of r) (witness-of r)
 abbrev pub held : List ℤ → Row → Held
 held pool r = record { id = id-of r; lits = clause-part pool r; witness = witness-part pool r }
 
+-- a clause or a record, and the place that it stands in
+pub record Entry : Type 0 where
+  pub where-is : ℕ
+  pub what : Held
+
+abbrev pub entry : List ℤ → Row → Entry
+entry pool r = record { where-is = place-of r; what = held pool r }
+
 -- ---- what the tables spell
 
 abbrev pub stands : ℕ → Row → Bool
@@ -139,6 +147,10 @@ pub record Fit (t : Table) (rows : List Row) (pool : List ℤ) (stack : List ℕ
   pub stack-fit : t .depth ≤ length stack
   pub core : Core (t .vars) (t .highest) (t .top) (t .words) (held-rows t rows) pool (from-top t stack)
 
+-- with some stack: for writers that do not touch it
+abbrev pub Fits : Table → List Row → List ℤ → Type 0
+Fits t rows pool = (stack : List ℕ) × Fit t rows pool stack
+
 -- an accepted frame: the tables after it fit, and spell what the paper says
 pub record Moved (t : Table) (rows : List Row) (pool : List ℤ) (stack : List ℕ) (t′ : Table) (rows′ : List Row) (pool′ : List ℤ) (stack′ : List ℕ) (f : Frame) : Type 0 where
   pub fit : Fit t′ rows′ pool′ stack′
@@ -167,8 +179,9 @@ Located rows i Nothing = (k : ℕ) → k < length rows → id-of (row-at rows k)
 abbrev pub RowHeld : Table → List Row → ℕ → Type 0
 RowHeld t rows at = (at < t .count) × (t .count ≤ length rows) × (size (row-at rows at) ≤ t .words)
 
--- the id is among the first n
-pub record Among (ids : List ℕ) (n i : ℕ) : Type 0 where
-  pub index : ℕ
-  pub low : index < n
-  pub named : getD ids index 0 ≡ i
+-- what WEAKEN has been judged by: the row is irredundant, the witness is one, and there is room for it
+pub record Weakenable (t : Table) (rows : List Row) (pool : List ℤ) (at : ℕ) (witness : List ℤ) : Type 0 where
+  pub within : at < t .count
+  pub irredundant : place-of (row-at rows at) ≡ 0
+  pub witnessed : is-witness (t .vars) (clause-part pool (row-at rows at)) witness ≡ true
+  pub room : t .words + length witness ≤ length pool

@@ -2,9 +2,6 @@ use native.Mathlib.Nat.{add-sub-cancel-left}
 use borrow.Author.Needs.{needs}
 use Rattle.table.proofs.clause_of.Statement.{statement}
 use Rattle.table.proofs.clause_of.Tie as tie
-use Rattle.table.proofs.clause_of.Reads as reads
-use Rattle.table.proofs.clause_of.Lts as lts
-use Rattle.table.proofs.wide.Reads as wide-reads
 
 mul-row : tie.Need-mul-row
 mul-row c = search needs

@@ -7,8 +7,6 @@ use Rattle.table.proofs.Facts.{below-next}
 use borrow.Author.Needs.{needs}
 use Rattle.table.proofs.find.Statement.{statement}
 use Rattle.table.proofs.find.Tie as tie
-use Rattle.table.proofs.find.Reads as reads
-use Rattle.table.proofs.find.Lts as lts
 
 abbrev Inv-loop : tie.InvT-loop
 Inv-loop rows id k₀ k = (k ≤ length rows) × ((j : ℕ) → j < k → id-of (row-at rows j) ≡ id → ⊥)

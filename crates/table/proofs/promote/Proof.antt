@@ -2,8 +2,6 @@ use Rattle.table.proofs.Moves.{promote-moves}
 use borrow.Author.Needs.{needs}
 use Rattle.table.proofs.promote.Statement.{statement}
 use Rattle.table.proofs.promote.Tie as tie
-use Rattle.table.proofs.promote.Reads as reads
-use Rattle.table.proofs.promote.Lts as lts
 
 mul-row : tie.Need-mul-row
 mul-row c = search needs

@@ -2,9 +2,6 @@ use Rattle.table.proofs.Moves.{forget-moves, drop-moves}
 use borrow.Author.Needs.{needs}
 use Rattle.table.proofs.remove.Statement.{statement}
 use Rattle.table.proofs.remove.Tie as tie
-use Rattle.table.proofs.remove.Reads as reads
-use Rattle.table.proofs.remove.Lts as lts
-use Rattle.table.proofs.close_rows.Reads as close-rows-reads
 
 cast-n : tie.Need-cast-n
 cast-n c = search needs

@@ -2,76 +2,55 @@ use Rattle.table.proofs.Moves.{restore-moves}
 use borrow.Author.Needs.{needs}
 use Rattle.table.proofs.restore.Statement.{statement}
 use Rattle.table.proofs.restore.Tie as tie
-use Rattle.table.proofs.restore.Reads as reads
-use Rattle.table.proofs.restore.Lts as lts
-use Rattle.table.proofs.close_stack.Reads as close-stack-reads
-use Rattle.table.proofs.position.Reads as position-reads
 
--- src/lib.rt:185:15
 mul-row : tie.Need-mul-row
 mul-row c = search needs
 
--- src/lib.rt:185:15
 slice-copy-out-row : tie.Need-slice-copy-out-row
 slice-copy-out-row c = search needs
 
--- src/lib.rt:186:17
 cast-depth : tie.Need-cast-depth
 cast-depth c = search needs
 
--- src/lib.rt:187:39
 array-read-position : tie.Need-array-read-position
 array-read-position c = search needs
 
--- src/lib.rt:187:9
 position-requires : tie.Need-position-requires
 position-requires c κs = search needs
 
--- src/lib.rt:188:5
 close-stack-requires : tie.Need-close-stack-requires
 close-stack-requires c κs = search needs
 
--- src/lib.rt:189:17
 array-read-t15 : tie.Need-array-read-t15
 array-read-t15 c = search needs
 
--- src/lib.rt:189:28
 array-read-t23 : tie.Need-array-read-t23
 array-read-t23 c = search needs
 
--- src/lib.rt:189:36
 array-read-t26 : tie.Need-array-read-t26
 array-read-t26 c = search needs
 
--- src/lib.rt:189:5
 mul-t8 : tie.Need-mul-t8
 mul-t8 c = search needs
 
--- src/lib.rt:189:5
 slice-set-from-rows : tie.Need-slice-set-from-rows
 slice-set-from-rows c = search needs
 
--- src/lib.rt:194:26
 array-read-t15-2 : tie.Need-array-read-t15-2
 array-read-t15-2 c = search needs
 
--- src/lib.rt:194:16
 sub-t23 : tie.Need-sub-t23
 sub-t23 c = search needs
 
--- src/lib.rt:195:16
 sub-t26 : tie.Need-sub-t26
 sub-t26 c = search needs
 
--- src/lib.rt:180:1
 same-length : tie.Need-same-length
 same-length c = search needs
 
--- src/lib.rt:180:1
 same-length-2 : tie.Need-same-length-2
 same-length-2 c = search needs
 
--- src/lib.rt:180:1
 returns : tie.Need-returns
 returns c =
     let s = c .before .before .before .before .before .before .before .before .before .before .before in

@@ -1,13 +1,11 @@
 use mathlib.Core.Path.{_≡_}
-use Prim.Native.Nat.{ℕ, _+_, _-_, _<_}
+use Prim.Native.Nat.{_+_, _-_, _<_}
 use native.Mathlib.Omega.{arith}
-use Rattle.table.specs.Spelled.{Among}
-use Rattle.table.proofs.Stacked.{among-below}
+use Rattle.slices.specs.Writes.{Among}
+use Rattle.slices.proofs.Slices.{among-below}
 use borrow.Author.Needs.{needs}
-use Rattle.table.proofs.position.Statement.{statement}
-use Rattle.table.proofs.position.Tie as tie
-use Rattle.table.proofs.position.Reads as reads
-use Rattle.table.proofs.position.Lts as lts
+use Rattle.slices.proofs.position.Statement.{statement}
+use Rattle.slices.proofs.position.Tie as tie
 
 abbrev Inv-loop : tie.InvT-loop
 Inv-loop stack n id j₀ j = (j < n) × Among stack (j + 1) id

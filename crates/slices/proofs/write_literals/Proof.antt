@@ -1,7 +1,7 @@
--- `table::write_literals` meets its contract. The loop's invariant: the first i words are written.
+-- `slices::write_literals` meets its contract. The loop's invariant: the first i words are written.
 use mathlib.Core.Path.{_≡_, refl, _∙_, ap}
 use mathlib.Core.List.{List, _++_}
-use Prim.Native.Nat.{ℕ, _+_, _≤_, _-_}
+use Prim.Native.Nat.{_+_, _≤_, _-_}
 use native.Mathlib.Omega.{arith}
 use borrow.Author.Needs.{needs}
 use lib.IntN.{ℤ, pos}
@@ -9,11 +9,9 @@ use mir.Syntax.{w32}
 use mir.Val.{toZ, ofZ}
 use mir.ValLaws.{toZ-ofZ}
 use lib.ListN.{length, getD, set, take, drop, length-set}
-use Rattle.table.proofs.Slices.{over-next, over-last}
-use Rattle.table.proofs.write_literals.Statement.{statement}
-use Rattle.table.proofs.write_literals.Tie as tie
-use Rattle.table.proofs.write_literals.Reads as reads
-use Rattle.table.proofs.write_literals.Lts as lts
+use Rattle.slices.proofs.Slices.{over-next, over-last}
+use Rattle.slices.proofs.write_literals.Statement.{statement}
+use Rattle.slices.proofs.write_literals.Tie as tie
 
 abbrev Inv-loop : tie.InvT-loop
 Inv-loop tail₀ lits i₀ tail i = (tail ≡ take i lits ++ drop i tail₀) × (i ≤ length lits) × (length tail ≡ length tail₀)

@@ -1,14 +1,14 @@
--- `table::close_rows` meets its contract. The loop's invariant: the rows up to j are moved.
+-- `slices::close_rows` meets its contract. The loop's invariant: the rows up to j are moved.
 use mathlib.Core.Path.{_≡_, sym, _∙_, ap}
 use mathlib.Core.List.{List, []}
 use Prim.Native.Nat.{ℕ, _+_, _≤_, _-_}
 use native.Mathlib.Omega.{arith}
 use borrow.Author.Needs.{needs}
 use lib.ListN.{length, getD, set, length-set}
-use Rattle.table.specs.Writes.{closed}
-use Rattle.table.proofs.Slices.{closed-start, closed-next}
-use Rattle.table.proofs.close_rows.Statement.{statement}
-use Rattle.table.proofs.close_rows.Tie as tie
+use Rattle.slices.specs.Writes.{closed}
+use Rattle.slices.proofs.Slices.{closed-start, closed-next}
+use Rattle.slices.proofs.close_rows.Statement.{statement}
+use Rattle.slices.proofs.close_rows.Tie as tie
 
 abbrev Inv-loop : tie.InvT-loop
 Inv-loop rows₀ n at j₀ last rows j = (rows ≡ closed rows₀ at j) × (at ≤ j) × (j ≤ n - 1) × (last ≡ n - 1) × (length rows ≡ length rows₀)

@@ -1,17 +1,18 @@
 -- Slices after a store, a part of one, and what the small writers leave. Nothing here knows of clauses.
 use mathlib.Core.Path.{_≡_, refl, sym, _∙_, ap}
-use mathlib.Core.List.{List, [], _∷_, _++_, append-assoc, append-nil}
+use mathlib.Core.Logic.{⊎-elim}
+use mathlib.Core.List.{List, [], _∷_, _++_, reverse, reverse-cons, List·Memᴰ, List·Memᴰ·head, List·Memᴰ·tail, List·Memᴰ·append-cases, List·Memᴰ·cases-cons, List·Memᴰ·eq-of-singleton, List·Memᴰ·not-nil, append-assoc, append-nil}
 use Prim.Native.Nat.{ℕ, zero, suc, _+_, _-_, _<_, _≤_}
-use native.Mathlib.Nat.{sub-self, add-sub-of-le}
+use native.Mathlib.Nat.{sub-self, add-sub-of-le, eq-or-lt-of-le}
 use native.Mathlib.Numerals.{add-one}
 use native.Mathlib.Omega.{arith}
 use lib.ListN.{length, getD, set, take, drop, length-append, length-drop, take-append-drop}
 use lib.Seq.{length-take-le, take-nil, take-all, take-length, take-append-seam, drop-length, take-suc, drop-cons, take-at, drop-at, set-at, append-snoc, getD-append-add, getD-drop, take-take, drop-drop, take-suc-set, take-set-lt, set-split}
 use borrow.Rule.Slice.PartMut.{midOf, postOf, putMid}
-use Rattle.table.specs.Writes.{over, written, closed}
+use Rattle.slices.specs.Writes.{over, written, closed, Among}
 
 module _ {A : Type 0} where
-  pub drop-take : (i n : ℕ) (l : List A) → drop i (take n l) ≡ take (n - i) (drop i l)
+  drop-take : (i n : ℕ) (l : List A) → drop i (take n l) ≡ take (n - i) (drop i l)
   drop-take zero n l = let e : n - zero ≡ n = omega arith in rw e
   drop-take (suc i) n [] = rw (take-nil n, take-nil (n - suc i))
   drop-take (suc i) zero (x ∷ xs) = let e : zero - suc i ≡ zero = omega arith in rw e
@@ -62,6 +63,9 @@ module _ {A : Type 0} where
   pub length-over : (d s : List A) → length s ≤ length d → length (over d s) ≡ length d
   length-over d s h = omega (arith, length-append s (drop (length s) d), length-drop (length s) d)
 
+  pub length-tail : (l : List A) (u : ℕ) → length (midOf u (length l - u) l) ≡ length l - u
+  length-tail l u = length-take-le (length l - u) (drop u l) (omega (arith, length-drop u l))
+
   -- `&mut l[u..]`, lent to one who writes s over it
   pub tail-written : (l s : List A) (u : ℕ) → u ≤ length l → (z : List A) → z ≡ over (midOf u (length l - u) l) s → putMid u (length l - u) l z ≡ written l u s
   tail-written l s u h z e =
@@ -73,7 +77,7 @@ module _ {A : Type 0} where
     pub written-before : take at (written d at s) ≡ take at d
     written-before = take-at (take at d) (over (drop at d) s) at (length-take-le at d h)
 
-    pub written-from : drop at (written d at s) ≡ over (drop at d) s
+    written-from : drop at (written d at s) ≡ over (drop at d) s
     written-from = drop-at (take at d) (over (drop at d) s) at (length-take-le at d h)
 
     pub written-part : take (length s) (drop at (written d at s)) ≡ s
@@ -135,3 +139,26 @@ module _ {A : Type 0} where
       let a = take-take i n l (omega arith) in
       let b = drop-take (suc i) n l in
       ap (take (n - 1)) (closed-is (n - 1)) ∙ take-at (front (n - 1)) (drop (n - 1) l) (n - 1) (length-front (n - 1) (omega arith) (omega arith)) ∙ rw (a, b, j)
+
+-- ---- the search for a number that is there
+
+pub in-reverse : {A : Type 0} {x : A} (l : List A) → List·Memᴰ x (reverse l) → List·Memᴰ x l
+in-reverse [] m = m
+in-reverse {x} (y ∷ l) m = ⊎-elim
+    (λ n. List·Memᴰ·tail (in-reverse l n))
+    (λ n. List·Memᴰ·head (List·Memᴰ·eq-of-singleton n))
+    (List·Memᴰ·append-cases (reverse l) (rw reverse-cons at m))
+
+pub among-of : {i : ℕ} (n : ℕ) (ids : List ℕ) → List·Memᴰ i (take n ids) → Among ids n i
+among-of zero ids m = absurd (List·Memᴰ·not-nil m)
+among-of (suc n) [] m = absurd (List·Memᴰ·not-nil m)
+among-of (suc n) (j ∷ ids) m = ⊎-elim
+    (λ e. record { index = 0; low = omega arith; named = sym e })
+    (λ k. let a = among-of n ids k in let l = a .low in record { index = suc (a .index); low = omega arith; named = a .named })
+    (List·Memᴰ·cases-cons m)
+
+pub among-below : {ids : List ℕ} {j i : ℕ} → Among ids (j + 1) i → (getD ids j 0 ≡ i → ⊥) → Among ids j i
+among-below {ids} {j} {i} a n = ⊎-elim
+    (λ e. absurd (n (ap (λ k. getD ids k 0) (sym e) ∙ a .named)))
+    (λ l. record { index = a .index; low = l; named = a .named })
+    (eq-or-lt-of-le (let l = a .low in omega arith))
