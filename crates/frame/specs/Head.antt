@@ -1,0 +1,56 @@
+-- What a head says of a frame's words.
+use mathlib.Core.Path.{_≡_}
+use mathlib.Core.Bool.{true, false, cond}
+use mathlib.Core.List.{List}
+use Prim.Native.Nat.{ℕ, _+_, _-_, _≤_}
+use lib.Dec.{eqb}
+use lib.IntN.{ℤ}
+use lib.ListN.{length, getD, take, drop}
+use Rattle.rules.specs.Frames.{Parsed, malformed, framed, ADD, LEARN, FORGET, PROMOTE, DROP, WEAKEN, RESTORE, SAT, UNSAT, word, number, counts, rows}
+use Rattle.frame.specs.declared.Head.{Head}
+use Rattle.frame.specs.declared.Head.the-variants as head
+use Rattle.frame.specs.declared.Count.{Count}
+use Rattle.frame.specs.declared.Count.the-variants.{Of, Wrong}
+
+-- the row of an operation, in the table of the nine frames
+abbrev pub row : ℕ → List ℤ → Parsed
+row op ws = getD rows op (λ ws. malformed) ws
+
+-- the word at `at` counts words behind it, or does not
+abbrev pub Counts : ℕ → List ℤ → ℕ → Count → Type 0
+Counts least ws at (Of n) = (counts least (word ws at) (length ws - (at + 1)) ≡ true) × (number (word ws at) ≡ n) × (at + 1 + n ≤ length ws) × (n ≤ 256)
+Counts least ws at Wrong = counts least (word ws at) (length ws - (at + 1)) ≡ false
+
+-- the frame that the words are by their head
+unfoldable pub frame-of : Head → List ℤ → Parsed
+frame-of head.Malformed ws = malformed
+frame-of (head.Add i) ws = framed (ADD i (drop 2 ws))
+frame-of (head.Learn i n) ws = framed (LEARN i (take n (drop 3 ws)) (drop (3 + n) ws))
+frame-of (head.Forget i) ws = framed (FORGET i)
+frame-of (head.Promote i) ws = framed (PROMOTE i)
+frame-of (head.Drop i) ws = framed (DROP i (drop 2 ws))
+frame-of (head.Weaken i n) ws = framed (WEAKEN i (take n (drop 3 ws)) (drop (3 + n) ws))
+frame-of (head.Restore i) ws = framed (RESTORE i)
+frame-of (head.Sat n) ws = framed (SAT (take n (drop 2 ws)) (drop (2 + n) ws))
+frame-of (head.Unsat n) ws = framed (UNSAT (take n (drop 2 ws)) (drop (2 + n) ws))
+
+-- a head that stands for exactly 2 words
+abbrev pub pair : ℕ → Head → Head
+pair n h = cond (eqb n 2) h head.Malformed
+
+-- its lists lie inside the words, and are short
+unfoldable pub Inside : Head → ℕ → Type 0
+Inside head.Malformed n = Unit {0}
+Inside (head.Add i) n = (2 ≤ n) × (n ≤ 258)
+Inside (head.Learn i k) n = (3 + k ≤ n) × (k ≤ 256) × (n ≤ 4096)
+Inside (head.Forget i) n = Unit {0}
+Inside (head.Promote i) n = Unit {0}
+Inside (head.Drop i) n = (2 ≤ n) × (n ≤ 4096)
+Inside (head.Weaken i k) n = (3 + k ≤ n) × (k ≤ 256) × (n ≤ 4096)
+Inside (head.Restore i) n = Unit {0}
+Inside (head.Sat k) n = (2 + k ≤ n) × (k ≤ 256) × (n ≤ 4096)
+Inside (head.Unsat k) n = (2 + k ≤ n) × (k ≤ 256) × (n ≤ 4096)
+
+pub record Reads (p : Parsed) (ws : List ℤ) (h : Head) : Type 0 where
+  pub frame : p ≡ frame-of h ws
+  pub inside : Inside h (length ws)

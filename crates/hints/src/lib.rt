@@ -1,0 +1,206 @@
+// Propagation by hints. The false literals are a set in two arrays: `plus` has the variables of its positive literals, which are false, and `minus` those of its
+// negative literals, which are true.
+ghost use mathlib.Core.Path.{_≡_};
+ghost use mathlib.Core.Bool.{true, not};
+ghost use mathlib.Core.List.{map};
+ghost use lib.IntN.{negℤ};
+ghost use Rattle.rules.specs.Lists.{all, only};
+ghost use Rattle.rules.specs.Terms.{in-range, opposes};
+ghost use Rattle.rules.specs.Frames.{target};
+ghost use Rattle.rules.specs.Propagation.{also, run};
+ghost use Rattle.rules.specs.Propagation as paper;
+ghost use Rattle.words.specs.Words.{set-of};
+ghost use Rattle.table.specs.Spelled.{Readable, Rising};
+ghost use Rattle.hints.specs.Target.{judged, make-false, nothing};
+ghost use Rattle.hints.specs.Scope.{Picked, Positive, allowed-of, made-of, run-of};
+use rules::Verdict;
+use table::Found;
+
+// The allowed set: the clauses whose place is below `places`, but for one id.
+pub struct Scope {
+    pub places: u32,
+    pub except: u32,
+}
+
+// The row of the allowed clause that a hint names. A negative word is 0 as a number, and no row has the id 0.
+fn pick(rows: &[[u32; 5]], scope: Scope, hint: i32) -> Found
+    requires { ⌜ Rising (now rows) × Positive (now rows) ⌝ }
+    ensures { λ r. ⌜ Picked (now (rows .entry)) scope hint r ⌝ }
+{
+    let Found::At(k) = table::find(rows, literal::number(hint) as u32) else {
+        return Found::Nothing;
+    };
+    if table::place_at(rows, k) < scope.places && table::id_at(rows, k) != scope.except {
+        return Found::At(k);
+    }
+    Found::Nothing
+}
+
+// How propagation ended, and which literals were false then.
+pub struct Outcome {
+    pub verdict: Verdict,
+    pub plus: [u64; 32],
+    pub minus: [u64; 32],
+}
+
+// Read the hints in order, until one of them decides.
+pub fn propagate(
+    rows: &[[u32; 5]],
+    pool: &[i32],
+    scope: Scope,
+    hints: &[i32],
+    mut plus: [u64; 32],
+    mut minus: [u64; 32],
+) -> Outcome
+    requires { ⌜ Readable (now rows) (now pool) ⌝ }
+    ensures { λ r. ⌜ run-of r ≡ run (allowed-of scope (now (pool .entry)) (now (rows .entry))) (set-of plus minus) 0 (now (hints .entry)) ⌝ }
+{
+    let mut verdict = Verdict::UsedUp;
+    let mut h: usize = 0;
+    'hints: while h < hints.len() {
+        let Found::At(k) = pick(rows, scope, hints[h]) else {
+            verdict = Verdict::BadHint(h);
+            break 'hints;
+        };
+        let clause = table::clause_of(rows, pool, k);
+        let mut open: i32 = 0;
+        let mut i: usize = 0;
+        loop {
+            if i == clause.len() {
+                if open == 0 {
+                    verdict = Verdict::Proved(h + 1);
+                    break 'hints;
+                }
+                break;
+            }
+            let l = clause[i];
+            if !words::has(&plus, &minus, l) {
+                if open != 0 || words::has_opposite(&plus, &minus, l) {
+                    verdict = Verdict::BadHint(h);
+                    break 'hints;
+                }
+                open = l;
+            }
+            i += 1;
+        }
+        words::insert(&mut plus, &mut minus, literal::opposite(open));
+        h += 1;
+    }
+    Outcome {
+        verdict,
+        plus,
+        minus,
+    }
+}
+
+// A target made false: it holds a literal and its opposite, or these literals are false.
+struct Falses {
+    pub opposed: bool,
+    pub plus: [u64; 32],
+    pub minus: [u64; 32],
+}
+
+// The literals of c become false too, less the opposites of those in w.
+fn make_false(falses: Falses, c: &[i32], wplus: &[u64; 32], wminus: &[u64; 32]) -> Falses
+    requires { ⌜ all (in-range 2048) (now c) ≡ true ⌝ }
+    ensures { λ r. ⌜ made-of r ≡ make-false (made-of falses) (only (λ l. not (opposes (set-of (now (wplus .entry)) (now (wminus .entry))) l)) (now (c .entry))) ⌝ }
+{
+    let mut opposed = falses.opposed;
+    let mut plus = falses.plus;
+    let mut minus = falses.minus;
+    let mut i: usize = 0;
+    while i < c.len() && !opposed {
+        let l = c[i];
+        if !words::has_opposite(wplus, wminus, l) {
+            opposed = words::has_opposite(&plus, &minus, l);
+            words::insert(&mut plus, &mut minus, l);
+        }
+        i += 1;
+    }
+    Falses {
+        opposed,
+        plus,
+        minus,
+    }
+}
+
+// The whole of c.
+fn falses_of(c: &[i32]) -> Falses
+    requires { ⌜ all (in-range 2048) (now c) ≡ true ⌝ }
+    ensures { λ r. ⌜ made-of r ≡ make-false nothing (now (c .entry)) ⌝ }
+{
+    let empty = [0u64; 32];
+    let nothing = Falses {
+        opposed: false,
+        plus: empty,
+        minus: empty,
+    };
+    make_false(nothing, c, &empty, &empty)
+}
+
+// What the hints prove of a target made false.
+fn judge(rows: &[[u32; 5]], pool: &[i32], scope: Scope, falses: Falses, hints: &[i32]) -> Verdict
+    requires { ⌜ Readable (now rows) (now pool) ⌝ }
+    ensures { λ r. ⌜ r ≡ judged (allowed-of scope (now (pool .entry)) (now (rows .entry))) (made-of falses) (now (hints .entry)) ⌝ }
+{
+    if falses.opposed {
+        return Verdict::Proved(0);
+    }
+    let plus = falses.plus;
+    let minus = falses.minus;
+    let outcome = propagate(rows, pool, scope, hints, plus, minus);
+    outcome.verdict
+}
+
+pub fn proves(
+    rows: &[[u32; 5]],
+    pool: &[i32],
+    scope: Scope,
+    target: &[i32],
+    hints: &[i32],
+) -> Verdict
+    requires { ⌜ Readable (now rows) (now pool) × (all (in-range 2048) (now target) ≡ true) ⌝ }
+    ensures { λ r. ⌜ r ≡ paper.proves (allowed-of scope (now (pool .entry)) (now (rows .entry))) (now (target .entry)) (now (hints .entry)) ⌝ }
+{
+    judge(rows, pool, scope, falses_of(target), hints)
+}
+
+// The target of a group: c together with d less the opposites of w. It is not built in memory.
+pub fn proves_with(
+    rows: &[[u32; 5]],
+    pool: &[i32],
+    scope: Scope,
+    c: &[i32],
+    d: &[i32],
+    wplus: &[u64; 32],
+    wminus: &[u64; 32],
+    hints: &[i32],
+) -> Verdict
+    requires { ⌜ Readable (now rows) (now pool) × (all (in-range 2048) (now c) ≡ true) × (all (in-range 2048) (now d) ≡ true) ⌝ }
+    ensures { λ r. ⌜ r ≡ paper.proves (allowed-of scope (now (pool .entry)) (now (rows .entry))) (target (now (c .entry)) (set-of (now (wplus .entry)) (now (wminus .entry))) (now (d .entry))) (now (hints .entry)) ⌝ }
+{
+    let falses = make_false(falses_of(c), d, wplus, wminus);
+    judge(rows, pool, scope, falses, hints)
+}
+
+// The target of UNSAT: the opposites of the assumptions, by the two arrays changed over.
+pub fn refutes(
+    rows: &[[u32; 5]],
+    pool: &[i32],
+    scope: Scope,
+    assumed: &[i32],
+    hints: &[i32],
+) -> Verdict
+    requires { ⌜ Readable (now rows) (now pool) × (all (in-range 2048) (now assumed) ≡ true) ⌝ }
+    ensures { λ r. ⌜ r ≡ paper.proves (allowed-of scope (now (pool .entry)) (now (rows .entry))) (map negℤ (now (assumed .entry))) (now (hints .entry)) ⌝ }
+{
+    let same = falses_of(assumed);
+    let plus = same.minus;
+    let minus = same.plus;
+    let falses = Falses {
+        opposed: same.opposed,
+        plus,
+        minus,
+    };
+    judge(rows, pool, scope, falses, hints)
+}

@@ -1,0 +1,2 @@
+-- The laws of the small writers.
+pub mod Slices

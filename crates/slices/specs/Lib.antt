@@ -1,0 +1,2 @@
+-- What the small writers do.
+pub mod Writes

@@ -1,0 +1,58 @@
+-- What a row that was found says of the places, and what it says that none was found.
+use mathlib.Core.Path.{_≡_, _∙_, ap}
+use mathlib.Core.List.{List, [], _∷_, _++_, map, map-append}
+use Prim.Native.Nat.{ℕ, suc, _<_}
+use native.Mathlib.Omega.{arith}
+use lib.IntN.{ℤ}
+use lib.ListN.{length, take, drop}
+use lib.Seq.{split-at}
+use borrow.Author.Tests.{eq-eqb}
+use mathlib.Core.Bool.{false}
+use Rattle.rules.specs.Terms.{has, fetch}
+use Rattle.rules.proofs.Lists.{by-cases}
+use Rattle.table.specs.Facts.{All}
+use Rattle.table.specs.Spelled.{Row, row-at, id-of, place-of, held, stands, clauses, Rising, Located, Entry, entry}
+use Rattle.table.specs.declared.Found.the-variants.{Nothing}
+use Rattle.table.proofs.Facts.{all-indexed, all-join, all-more, all-map, pairs-before, pairs-after}
+use Rattle.table.proofs.Entries.{spell, clauses-spell, spell-unseen, has-here, has-none, fetch-here}
+
+module _ (pool : List ℤ) (rows : List Row) where
+  -- no row has the id: no place has it
+  pub nowhere : (i : ℕ) → Located rows i Nothing → (p : ℕ) → has (clauses p pool rows) i ≡ false
+  nowhere i n p = let e = clauses-spell p pool rows in rw e (has-none p i _ (all-map (entry pool) rows (all-indexed rows [] n)))
+
+  module _ (rising : Rising rows) (k : ℕ) (h : k < length rows) where
+    abbrev r : Row
+    r = row-at rows k
+
+    abbrev es : List Entry
+    es = map (entry pool) (take k rows)
+
+    abbrev fs : List Entry
+    fs = map (entry pool) (drop (suc k) rows)
+
+    split-rows : rows ≡ take k rows ++ r ∷ drop (suc k) rows
+    split-rows = split-at rows k [] h
+
+    split : (p : ℕ) → clauses p pool rows ≡ spell p (es ++ entry pool r ∷ fs)
+    split p = clauses-spell p pool rows ∙ ap (λ l. spell p (map (entry pool) l)) split-rows ∙ ap (spell p) (map-append (entry pool) (take k rows) (r ∷ drop (suc k) rows))
+
+    earlier : All (λ a. a .what .id < id-of r) es
+    earlier = let e = split-rows in all-map (entry pool) _ (pairs-before (take k rows) r (drop (suc k) rows) (rw e at rising))
+
+    later : All (λ a. id-of r < a .what .id) fs
+    later = let e = split-rows in all-map (entry pool) _ (pairs-after (take k rows) r (drop (suc k) rows) (rw e at rising))
+
+    others : All (λ a. a .what .id ≡ id-of r → ⊥) (es ++ fs)
+    others = all-join (all-more (λ a l (z : a .what .id ≡ id-of r). omega arith) earlier) (all-more (λ a l (z : a .what .id ≡ id-of r). omega arith) later)
+
+    -- the clause of a row stands in the place that the row says, and in no other
+    pub has-at : (p : ℕ) → has (clauses p pool rows) (id-of r) ≡ stands p r
+    has-at p =
+        let e = split p in
+        by-cases (stands p r)
+        (λ q. rw (e, q) (has-here p (entry pool r) q es fs))
+        (λ q. let u = spell-unseen p (entry pool r) q es fs in rw (e, q, u) (has-none p (id-of r) _ others))
+
+    pub fetch-at : (p : ℕ) → place-of r ≡ p → fetch (clauses p pool rows) (id-of r) ≡ held pool r
+    fetch-at p q = let e = split p in rw e (fetch-here p (entry pool r) (eq-eqb (place-of r) p q) es fs earlier)

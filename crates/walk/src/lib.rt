@@ -1,0 +1,108 @@
+// The loops over what is held: the irredundant clauses under an assignment, and the records from the top of the stack.
+ghost use mathlib.Core.Path.{_≡_};
+ghost use mathlib.Core.Bool.{true};
+ghost use mathlib.Core.List.{List};
+ghost use Prim.Native.Nat.{_≤_, _<_};
+ghost use lib.IntN.{ℤ};
+ghost use lib.ListN.{length};
+ghost use Rattle.rules.specs.Lists.{all};
+ghost use Rattle.rules.specs.Terms.{in-range, holds};
+ghost use Rattle.rules.specs.Frames as frames;
+ghost use Rattle.rules.specs.Answers as paper;
+ghost use Rattle.words.specs.Words.{assigned, set-of};
+ghost use Rattle.table.specs.Spelled.{Readable, clauses, row-at};
+ghost use Rattle.walk.specs.Records.{Stacked, records, falsified};
+use rules::Check;
+use rules::Fault;
+use table::Found;
+
+// ---- SAT: the offered assignment
+
+// 11: the first assumption that is not true, where `at` is the index of the first.
+pub fn assumed_true(words: &[u64; 32], c: &[i32], at: usize) -> Check
+    requires { ⌜ (at ≤ 4096) × (length (now c) ≤ 4096) × (all (in-range 2048) (now c) ≡ true) ⌝ }
+    ensures { λ r. ⌜ r ≡ paper.assumed-true (assigned (now (words .entry))) at (now (c .entry)) ⌝ }
+{
+    let mut i: usize = 0;
+    while i < c.len() {
+        if !words::is_true(words, c[i]) {
+            return Check::Failed(Fault::Assumption(at + i));
+        }
+        i += 1;
+    }
+    Check::Passed
+}
+
+// The row is that of an irredundant clause with no true literal.
+fn is_falsified(rows: &[[u32; 5]], pool: &[i32], k: usize, words: &[u64; 32]) -> bool
+    requires { ⌜ Readable (now rows) (now pool) × (k < length (now rows)) ⌝ }
+    ensures { λ r. ⌜ r ≡ falsified (assigned (now (words .entry))) (now (pool .entry)) (row-at (now (rows .entry)) k) ⌝ }
+{
+    if table::place_at(rows, k) == 0 {
+        return !clause::satisfied(table::clause_of(rows, pool, k), words);
+    }
+    false
+}
+
+// 10: the irredundant clause of the least id that has no true literal.
+pub fn satisfied(rows: &[[u32; 5]], pool: &[i32], words: &[u64; 32]) -> Check
+    requires { ⌜ Readable (now rows) (now pool) ⌝ }
+    ensures { λ r. ⌜ r ≡ paper.satisfied (assigned (now (words .entry))) (clauses 0 (now (pool .entry)) (now (rows .entry))) ⌝ }
+{
+    let mut k: usize = 0;
+    while k < rows.len() {
+        if is_falsified(rows, pool, k, words) {
+            return Check::Failed(Fault::Falsified(table::id_at(rows, k)));
+        }
+        k += 1;
+    }
+    Check::Passed
+}
+
+// ---- the records, of which `stack` has the ids from the bottom
+
+// 5: the topmost record against which a marked clause is not clean.
+pub fn cleanly(
+    rows: &[[u32; 5]],
+    pool: &[i32],
+    stack: &[u32],
+    plus: &[u64; 32],
+    minus: &[u64; 32],
+) -> Check
+    requires { ⌜ Readable (now rows) (now pool) × Stacked (now pool) (now rows) (now stack) ⌝ }
+    ensures { λ r. ⌜ ((c : List ℤ) → set-of (now (plus .entry)) (now (minus .entry)) ≡ holds c → r ≡ paper.cleanly c (records (now (pool .entry)) (now (rows .entry)) (now (stack .entry)))) ⌝ }
+{
+    let mut j = stack.len();
+    while j > 0 {
+        let top = j - 1;
+        let Found::At(k) = table::find(rows, stack[top]) else {
+            return Check::Passed;
+        };
+        if !clause::is_clean(table::witness_of(rows, pool, k), plus, minus) {
+            return Check::Failed(Fault::Unclean(table::id_at(rows, k)));
+        }
+        j = top;
+    }
+    Check::Passed
+}
+
+// The walk from top to bottom: where a record's clause has no true literal, its witness literals become true.
+pub fn mend(rows: &[[u32; 5]], pool: &[i32], stack: &[u32], offered: [u64; 32]) -> [u64; 32]
+    requires { ⌜ Readable (now rows) (now pool) × Stacked (now pool) (now rows) (now stack) ⌝ }
+    ensures { λ r. ⌜ assigned r ≡ frames.mend (assigned offered) (records (now (pool .entry)) (now (rows .entry)) (now (stack .entry))) ⌝ }
+{
+    let mut words = offered;
+    let mut j = stack.len();
+    while j > 0 {
+        let top = j - 1;
+        let Found::At(k) = table::find(rows, stack[top]) else {
+            return words;
+        };
+        if !clause::satisfied(table::clause_of(rows, pool, k), &words) {
+            let next = words::make_true(words, table::witness_of(rows, pool, k));
+            words = next;
+        }
+        j = top;
+    }
+    words
+}
