@@ -15,10 +15,9 @@ use Rattle.rules.specs.Answers.{need, _then_, flaw, unseen, ranged, is-above, a
 use Rattle.rules.specs.declared.Fault.the-variants.{Literal}
 use Rattle.rules.specs.declared.Check.{Check}
 use Rattle.rules.specs.declared.Check.the-variants.{Passed, Failed}
-use Rattle.rules.proofs.Lists.{all-nil, all-cons}
+use Rattle.rules.proofs.Lists.{from-index, all-nil, all-cons}
 use Rattle.rules.proofs.Checks.{then-left, then-right, need-true, flawless}
 use Rattle.literal.proofs.Signed.{wider, all-wider}
-use Rattle.words.proofs.Made.{here}
 
 pub record Scan (S : Type 0) : Type 0 where
   pub run : S → ℕ → List ℤ → Check
@@ -34,7 +33,7 @@ module _ {S : Type 0} (scan : Scan S) (whole : Check) (s : S) (at : ℕ) (c : Li
 
   module _ (lt : i < length c) where
     word : whole ≡ (need (scan .sound s (getD c i (pos 0))) (Literal (at + i)) then scan .run (scan .keep s (getD c i (pos 0))) (at + i + 1) (drop (i + 1) c))
-    word = let q = here c i lt in (rw q at far) ∙ scan .at-word s (at + i) (getD c i (pos 0)) (drop (i + 1) c)
+    word = let q = from-index c i (pos 0) lt in (rw q at far) ∙ scan .at-word s (at + i) (getD c i (pos 0)) (drop (i + 1) c)
 
     pub faulty : scan .sound s (getD c i (pos 0)) ≡ false → Failed (Literal (at + i)) ≡ whole
     unfolding need _then_

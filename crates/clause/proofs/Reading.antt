@@ -11,10 +11,9 @@ use mir.Facts.{toZ-ofZ}
 use Rattle.rules.specs.Lists.{any, all}
 use Rattle.rules.specs.Terms.{Literals, same, in-range, holds}
 use Rattle.rules.specs.Propagation.{also}
-use Rattle.rules.proofs.Lists.{any-on, any-past, all-index}
+use Rattle.rules.proofs.Lists.{from-index, any-on, any-past, all-index}
 use Rattle.literal.proofs.Signed.{back}
 use Rattle.words.specs.Words.{set-of}
-use Rattle.words.proofs.Made.{here}
 use Rattle.words.proofs.Sets.{zeros-empty}
 
 -- the literal that is read at an index, by its bits
@@ -45,7 +44,7 @@ none-marked c = rw zeros-empty (fun-ext (λ l. sym (or-false (holds c l))))
 module _ (whole F : Literals) (c : List ℤ) (i : ℕ) (far : whole ≡ with-all (drop i c) F) where
   pub marked : i < length c → (G : Literals) → G ≡ also (getD c i (pos 0)) F → whole ≡ with-all (drop (i + 1) c) G
   unfolding any
-  marked lt G g = let q = here c i lt in (rw q at far) ∙ rw g (fun-ext (λ l. joined (same (getD c i (pos 0)) l) (holds (drop (i + 1) c) l) (F l)))
+  marked lt G g = let q = from-index c i (pos 0) lt in (rw q at far) ∙ rw g (fun-ext (λ l. joined (same (getD c i (pos 0)) l) (holds (drop (i + 1) c) l) (F l)))
     where
       joined : (x y z : Bool) → (x || y || z) ≡ (y || (x || z))
       joined x y z = ap (λ b. b || z) (or-comm x y) ∙ or-assoc y x z

@@ -5,11 +5,11 @@ use Prim.Native.Nat.{ℕ, _+_, _≤_, _<_}
 use native.Mathlib.Omega.{arith}
 use lib.IntN.{ℤ, pos, negℤ}
 use lib.ListN.{length, getD, drop, drop-of-length-le}
+use Rattle.rules.proofs.Lists.{from-index}
 use Rattle.rules.specs.Terms.{Literals}
 use Rattle.rules.specs.Propagation.{Named, nobody, clause, Allowed, named, conflict, forced, bad, read, judge, Run, ended, also, after, run}
 use Rattle.rules.specs.declared.Verdict.{Verdict}
 use Rattle.rules.specs.declared.Verdict.the-variants.{Proved, BadHint, UsedUp}
-use Rattle.hints.proofs.Scan.{from}
 
 -- before hint h, with F false and the verdict v so far
 pub record Running (A : Allowed) (hints : List ℤ) (whole : Run) (F : Literals) (v : Verdict) (h : ℕ) : Type 0 where
@@ -25,7 +25,7 @@ module _ {A : Allowed} {hints : List ℤ} {whole : Run} {F : Literals} {v : Verd
   module _ (lt : h < length hints) where
     here : (w : Named) → named A (getD hints h (pos 0)) ≡ w → whole ≡ after (judge F w) h F (λ u. run A (also (negℤ u) F) (h + 1) (drop (h + 1) hints))
     unfolding run
-    here w e = let q = from hints h lt in (rw q at (s .left)) ∙ rw e
+    here w e = let q = from-index hints h (pos 0) lt in (rw q at (s .left)) ∙ rw e
 
     pub run-nobody : named A (getD hints h (pos 0)) ≡ nobody → ended (BadHint h) F ≡ whole
     run-nobody e = sym (here nobody e)

@@ -3,18 +3,13 @@ use mathlib.Core.Path.{_≡_, refl, _∙_}
 use mathlib.Core.Bool.{true, false, not, false≢true}
 use mathlib.Core.List.{List, [], _∷_, _++_}
 use Prim.Native.Nat.{ℕ, zero, suc, _+_, _≤_, _<_}
-use native.Mathlib.Numerals.{add-one}
 use native.Mathlib.Omega.{arith}
 use lib.IntN.{ℤ, pos, negsuc}
 use lib.ListN.{length, getD, drop, drop-of-length-le}
-use lib.Seq.{drop-cons}
+use Rattle.rules.proofs.Lists.{from-index}
 use Rattle.rules.specs.Lists.{only}
 use Rattle.rules.specs.Terms.{Literals, in-range, opposes}
 use Rattle.rules.specs.Propagation.{Reading, conflict, forced, bad, reading, read}
-
--- the words from index i on
-pub from : (ws : List ℤ) (i : ℕ) → i < length ws → drop i ws ≡ getD ws i (pos 0) ∷ drop (i + 1) ws
-from ws i h = rw (add-one, drop-cons ws i (pos 0))
 
 -- the open literal o that the scan has met; 0 is none
 abbrev met : ℤ → List ℤ
@@ -67,7 +62,7 @@ module _ {F : Literals} {c : List ℤ} {o : ℤ} {i : ℕ} (s : Scanned F c o i)
     l = getD c i (pos 0)
 
     here : read F c ≡ resumed F o (l ∷ drop (i + 1) c)
-    here = let q = from c i lt in rw q at (s .left)
+    here = let q = from-index c i (pos 0) lt in rw q at (s .left)
 
     pub scan-false : F l ≡ true → Scanned F c o (i + 1)
     scan-false h = record { within = omega arith; left = here ∙ on-false F _ _ o h; kept = s .kept }

@@ -12,10 +12,9 @@ use Rattle.rules.specs.Lists.{any, all, only}
 use Rattle.rules.specs.Terms.{Literals, same, in-range, holds, opposes}
 use Rattle.rules.specs.Propagation.{Allowed, also, proves}
 use Rattle.rules.specs.declared.Verdict.{Verdict}
-use Rattle.rules.proofs.Lists.{by-cases, not-true, all-head, all-tail}
+use Rattle.rules.proofs.Lists.{from-index, by-cases, not-true, all-head, all-tail}
 use Rattle.rules.proofs.Literals.{clash, clash-sym, opposes-also, opposes-none}
 use Rattle.words.proofs.Sets.{changed-over}
-use Rattle.hints.proofs.Scan.{from}
 use Rattle.hints.specs.Target.{Made, opposed, falses, nothing, deny, make-false, judged}
 use Rattle.hints.specs.Scope.{made-of}
 use Rattle.hints.specs.declared.Falses.{Falses}
@@ -151,7 +150,7 @@ module _ (p : ℤ → Bool) (c : List ℤ) where
 
     module _ (lt : i < length c) where
       here : whole ≡ make-false m (only p (getD c i (pos 0) ∷ drop (i + 1) c))
-      here = let q = from c i lt in rw q at (s .left)
+      here = let q = from-index c i (pos 0) lt in rw q at (s .left)
 
       pub making-gone : p (getD c i (pos 0)) ≡ false → Making whole m (i + 1)
       unfolding only

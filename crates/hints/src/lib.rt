@@ -7,7 +7,7 @@ ghost use lib.IntN.{negℤ};
 ghost use Rattle.rules.specs.Lists.{all, only};
 ghost use Rattle.rules.specs.Terms.{in-range, opposes};
 ghost use Rattle.rules.specs.Frames.{target};
-ghost use Rattle.rules.specs.Propagation.{also, run};
+ghost use Rattle.rules.specs.Propagation.{run};
 ghost use Rattle.rules.specs.Propagation as paper;
 ghost use Rattle.words.specs.Words.{set-of};
 ghost use Rattle.table.specs.Spelled.{Readable, Rising};

@@ -51,6 +51,10 @@ or-right true b h = refl
 or-right false b h = h
 
 module _ {A : Type 0} where
+  -- a list from an index on, for a loop that passes it
+  pub from-index : (xs : List A) (i : ℕ) (d : A) → i < length xs → drop i xs ≡ getD xs i d ∷ drop (i + 1) xs
+  from-index xs i d h = rw (add-one, drop-cons xs i d)
+
   module _ (p : A → Bool) where
     pub any-in : {x : A} {xs : List A} → List·Memᴰ x xs → p x ≡ true → any p xs ≡ true
     unfolding any

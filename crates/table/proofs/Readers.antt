@@ -1,28 +1,27 @@
 -- What readers may lean on: the counts, what was found at a row, and that clauses and witnesses obey Terms.
 use mathlib.Core.Path.{_≡_, refl, sym, _∙_, ap}
 use mathlib.Core.Bool.{true, false, cond}
-use mathlib.Core.List.{List, [], _∷_, _++_, map, map-append, reverse, reverse-append}
-use Prim.Native.Nat.{ℕ, zero, suc, _+_, _-_, _<_, _≤_}
+use mathlib.Core.List.{List, [], _∷_, _++_, map, reverse, reverse-append}
+use Prim.Native.Nat.{ℕ, zero, suc, _+_, _<_, _≤_}
 use native.Mathlib.Omega.{arith}
 use native.Mathlib.Numerals.{add-one}
 use lib.Dec.{eqb, ltb, leb}
 use lib.IntN.{ℤ, pos, negsuc}
-use lib.ListN.{length, getD, take, drop, length-append, length-map, length-reverse}
-use lib.Seq.{length-take-le, getD-take, split-at, take-suc}
+use lib.ListN.{length, getD, take, length-append, length-map, length-reverse}
+use lib.Seq.{length-take-le, getD-take, take-suc}
 use borrow.Author.Tests.{ltb-true, lt-ltb, eq-eqb}
 use Rattle.rules.specs.Lists.{all, only}
 use Rattle.rules.specs.Terms.{in-range, distinct, is-clause, Held, State, has, fetch, everything, room}
 use Rattle.rules.specs.Answers.{need, free-entry, free-words}
 use Rattle.rules.specs.declared.Fault.the-variants.{NoEntry, NoWords}
-use Rattle.rules.proofs.Lists.{by-cases, and-left, and-right, all-at, all-of}
+use Rattle.rules.proofs.Lists.{and-left, and-right, all-at, all-of}
 use Rattle.rules.proofs.Places.{words-of, length-without, room-append}
 use Rattle.table.specs.Facts.{All, none, both, total}
-use Rattle.table.specs.Spelled.{Row, row-at, id-of, place-of, size, held, stands, clauses, held-rows, from-top, spelled, Inside, Fit, Readable, Located, Entry, entry}
+use Rattle.table.specs.Spelled.{Row, row-at, id-of, place-of, size, held, stands, clauses, held-rows, from-top, spelled, Inside, Fit, Readable, Located}
 use Rattle.table.specs.declared.Table.{Table}
 use Rattle.table.specs.declared.Found.the-variants.{Nothing}
-use Rattle.table.proofs.Facts.{all-index, all-indexed, all-unreverse, all-join, all-more, all-map, pairs-before, pairs-after}
+use Rattle.table.proofs.Facts.{all-index, all-unreverse, all-more}
 use Rattle.table.proofs.Places.{length-settled, room-settled}
-use Rattle.table.proofs.Entries.{spell, clauses-spell, spell-unseen, has-here, has-none, fetch-here}
 use Rattle.table.proofs.Finding as finding
 use Rattle.table.proofs.Stacked.{listed-has, listed-fetch}
 use Rattle.table.proofs.Rows.{clause-length, witness-length, lawful-placed, lawful-clause, lawful-witness, clause-short}

@@ -3,14 +3,13 @@ use mathlib.Core.Path.{_≡_, refl, sym, _∙_, ap}
 use mathlib.Core.Bool.{true, false, not, true≢false}
 use mathlib.Core.List.{List, [], _∷_}
 use Prim.Native.Nat.{ℕ, _+_, _-_, _≤_, _<_}
-use native.Mathlib.Numerals.{add-one}
 use native.Mathlib.Omega.{arith}
 use lib.Dec.{eqb}
 use lib.IntN.{ℤ, pos}
 use lib.ListN.{length, getD, take, drop, drop-of-length-le}
-use lib.Seq.{drop-cons, take-length}
+use lib.Seq.{take-length}
 use borrow.Author.Tests.{eq-eqb, ne-eqb, eqb-true}
-use Rattle.rules.specs.Lists.{only}
+use Rattle.rules.specs.Lists.{any, only}
 use Rattle.rules.specs.Terms.{Assignment, lit, sat, clean, Held, has, fetch}
 use Rattle.rules.specs.Frames.{mend, make}
 use Rattle.rules.specs.Answers.{_then_, need, satisfied, assumed-true, cleanly}
@@ -20,8 +19,8 @@ use Rattle.table.specs.Spelled.{Row, row-at, id-of, place-of, held, clause-part
 use Rattle.table.specs.declared.Found.the-variants.{At, Nothing}
 use Rattle.table.proofs.Finding.{nowhere, has-at, fetch-at}
 use Rattle.table.proofs.Readers.{from-top-next}
-use Rattle.rules.proofs.Lists.{by-cases, not-true, and-left, and-right}
-use Rattle.walk.specs.Records.{records, falsified}
+use Rattle.rules.proofs.Lists.{from-index, by-cases, not-true, and-left, and-right}
+use Rattle.walk.specs.Records.{Record, records, falsified, is-stacked}
 
 -- ---- assumptions
 
@@ -29,16 +28,13 @@ module _ (α : Assignment) (at : ℕ) (c : List ℤ) (i : ℕ) where
   abbrev l : ℤ
   l = getD c i (pos 0)
 
-  here : i < length c → drop i c ≡ l ∷ drop (i + 1) c
-  here h = rw (add-one, drop-cons c i (pos 0))
-
   pub assumption-true : i < length c → lit α l ≡ true → assumed-true α (at + i) (drop i c) ≡ assumed-true α (at + (i + 1)) (drop (i + 1) c)
   unfolding assumed-true _then_ need
-  assumption-true h t = let e = here h in let n : at + i + 1 ≡ at + (i + 1) = omega arith in rw (e, t, n)
+  assumption-true h t = let e = from-index c i (pos 0) h in let n : at + i + 1 ≡ at + (i + 1) = omega arith in rw (e, t, n)
 
   pub assumption-false : i < length c → lit α l ≡ false → assumed-true α (at + i) (drop i c) ≡ Failed (Assumption (at + i))
   unfolding assumed-true _then_ need
-  assumption-false h f = let e = here h in rw (e, f)
+  assumption-false h f = let e = from-index c i (pos 0) h in rw (e, f)
 
   pub all-true : length c ≤ i → assumed-true α (at + i) (drop i c) ≡ Passed
   unfolding assumed-true
@@ -50,13 +46,10 @@ module _ (α : Assignment) (pool : List ℤ) (rows : List Row) (k : ℕ) where
   abbrev r : Row
   r = row-at rows k
 
-  row-here : k < length rows → drop k rows ≡ r ∷ drop (k + 1) rows
-  row-here h = rw (add-one, drop-cons rows k [])
-
   pub row-passes : k < length rows → falsified α pool r ≡ false → satisfied α (clauses 0 pool (drop k rows)) ≡ satisfied α (clauses 0 pool (drop (k + 1) rows))
   unfolding only satisfied _then_ need falsified
   row-passes h f =
-      let e = row-here h in
+      let e = from-index rows k [] h in
       by-cases (stands 0 r)
       (λ p. by-cases (sat α (clause-part pool r)) (λ t. rw (e, p, t)) (λ t. let z : true ≡ false = rw (p, t) at f in absurd (true≢false z)))
       (λ p. rw (e, p))
@@ -64,7 +57,7 @@ module _ (α : Assignment) (pool : List ℤ) (rows : List Row) (k : ℕ) where
   pub row-fails : k < length rows → falsified α pool r ≡ true → satisfied α (clauses 0 pool (drop k rows)) ≡ Failed (Falsified (id-of r))
   unfolding only satisfied _then_ need falsified
   row-fails h f =
-      let e = row-here h in
+      let e = from-index rows k [] h in
       let p = and-left (stands 0 r) (not (sat α (clause-part pool r))) f in
       let t : sat α (clause-part pool r) ≡ false = not-true (and-right (stands 0 r) (not (sat α (clause-part pool r))) f) in
       rw (e, p, t)
@@ -83,6 +76,23 @@ module _ (α : Assignment) (pool : List ℤ) (r : Row) where
   pub irredundant-row : place-of r ≡ 0 → falsified α pool r ≡ not (sat α (clause-part pool r))
   unfolding falsified
   irredundant-row p = rw (eq-eqb (place-of r) 0 p)
+
+-- ---- the row of a record
+
+pub has-stacked : (pool : List ℤ) (rows : List Row) (i : ℕ) → has (clauses 2 pool rows) i ≡ is-stacked rows i
+unfolding any only is-stacked
+has-stacked pool [] i = refl
+has-stacked pool (r ∷ rows) i = let q = has-stacked pool rows i in by-cases (stands 2 r) (λ p. rw (p, q)) (λ p. rw (p, q))
+
+module _ (rows : List Row) (rising : Rising rows) (i : ℕ) (m : is-stacked rows i ≡ true) where
+  pub found : (k : ℕ) → Located rows i (At k) → Record rows i k
+  found k l =
+      let q = l .1 in
+      let there : (pool : List ℤ) → eqb (place-of (row-at rows k)) 2 ≡ true = λ pool. sym (has-at pool rows rising k (l .0) 2) ∙ rw q (has-stacked pool rows i ∙ m) in
+      record { below = l .0; held-there = λ pool. rw (← q) (fetch-at pool rows rising k (l .0) 2 (eqb-true (place-of (row-at rows k)) 2 (there pool))) }
+
+  pub not-missing : Located rows i Nothing → ⊥
+  not-missing l = true≢false (sym m ∙ sym (has-stacked [] rows i) ∙ nowhere [] rows i l 2)
 
 -- ---- records, from the top: those below the index j are left
 
@@ -106,17 +116,6 @@ module _ (pool : List ℤ) (rows : List Row) (ids : List ℕ) where
 
   pub whole : below (length ids) ≡ records pool rows ids
   whole = rw (take-length ids)
-
-  -- a stacked clause has a row, and it is that of its id
-  module _ (rising : Rising rows) (i : ℕ) (m : has (clauses 2 pool rows) i ≡ true) where
-    pub found : (k : ℕ) → Located rows i (At k) → fetch (clauses 2 pool rows) i ≡ held pool (row-at rows k)
-    found k l =
-        let q = l .1 in
-        let p : eqb (place-of (row-at rows k)) 2 ≡ true = sym (has-at pool rows rising k (l .0) 2) ∙ rw q m in
-        rw (← q) (fetch-at pool rows rising k (l .0) 2 (eqb-true (place-of (row-at rows k)) 2 p))
-
-    pub not-missing : Located rows i Nothing → ⊥
-    not-missing l = true≢false (sym m ∙ nowhere pool rows i l 2)
 
   -- the record on top of those below j, whose row is k
   module _ (j : ℕ) (h : 0 < j) (inside : j ≤ length ids) (k : ℕ) (q : fetch (clauses 2 pool rows) (getD ids (j - 1) 0) ≡ held pool (row-at rows k)) where

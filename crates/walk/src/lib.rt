@@ -4,14 +4,14 @@ ghost use mathlib.Core.Bool.{true};
 ghost use mathlib.Core.List.{List};
 ghost use Prim.Native.Nat.{_≤_, _<_};
 ghost use lib.IntN.{ℤ};
-ghost use lib.ListN.{length};
+ghost use lib.ListN.{length, getD};
 ghost use Rattle.rules.specs.Lists.{all};
 ghost use Rattle.rules.specs.Terms.{in-range, holds};
 ghost use Rattle.rules.specs.Frames as frames;
 ghost use Rattle.rules.specs.Answers as paper;
 ghost use Rattle.words.specs.Words.{assigned, set-of};
-ghost use Rattle.table.specs.Spelled.{Readable, clauses, row-at};
-ghost use Rattle.walk.specs.Records.{Stacked, records, falsified};
+ghost use Rattle.table.specs.Spelled.{Readable, Rising, clauses, row-at};
+ghost use Rattle.walk.specs.Records.{Record, Stacked, records, falsified, is-stacked};
 use rules::Check;
 use rules::Fault;
 use table::Found;
@@ -61,6 +61,17 @@ pub fn satisfied(rows: &[[u32; 5]], pool: &[i32], words: &[u64; 32]) -> Check
 
 // ---- the records, of which `stack` has the ids from the bottom
 
+// The row of the record whose id stands at j.
+fn record_at(rows: &[[u32; 5]], stack: &[u32], j: usize) -> usize
+    requires { ⌜ Rising (now rows) × (j < length (now stack)) × (is-stacked (now rows) (getD (now stack) j 0) ≡ true) ⌝ }
+    ensures { λ r. ⌜ Record (now (rows .entry)) (getD (now (stack .entry)) j 0) r ⌝ }
+{
+    let Found::At(k) = table::find(rows, stack[j]) else {
+        return 0;
+    };
+    k
+}
+
 // 5: the topmost record against which a marked clause is not clean.
 pub fn cleanly(
     rows: &[[u32; 5]],
@@ -75,9 +86,7 @@ pub fn cleanly(
     let mut j = stack.len();
     while j > 0 {
         let top = j - 1;
-        let Found::At(k) = table::find(rows, stack[top]) else {
-            return Check::Passed;
-        };
+        let k = record_at(rows, stack, top);
         if !clause::is_clean(table::witness_of(rows, pool, k), plus, minus) {
             return Check::Failed(Fault::Unclean(table::id_at(rows, k)));
         }
@@ -95,9 +104,7 @@ pub fn mend(rows: &[[u32; 5]], pool: &[i32], stack: &[u32], offered: [u64; 32]) 
     let mut j = stack.len();
     while j > 0 {
         let top = j - 1;
-        let Found::At(k) = table::find(rows, stack[top]) else {
-            return words;
-        };
+        let k = record_at(rows, stack, top);
         if !clause::satisfied(table::clause_of(rows, pool, k), &words) {
             let next = words::make_true(words, table::witness_of(rows, pool, k));
             words = next;

@@ -3,9 +3,7 @@ use mathlib.Core.Path.{_≡_, refl, sym, _∙_, ap, fun-ext}
 use mathlib.Core.Bool.{true, _||_, or-true, or-false, false≢true}
 use mathlib.Core.List.{List, [], _∷_}
 use Prim.Native.Nat.{ℕ, zero, suc, _+_, _≤_, _<_}
-use native.Mathlib.Numerals.{add-one}
 use lib.ListN.{length, getD, drop, drop-of-length-le}
-use lib.Seq.{drop-cons}
 use lib.IntN.{ℤ, pos, negsuc, natAbs}
 use lib.Dec.{eqb}
 use Rattle.rules.specs.Lists.{any, all}
@@ -13,14 +11,10 @@ use Rattle.rules.specs.Terms.{Assignment, in-range, holds, upd}
 use Rattle.rules.specs.Frames.{put, make, offered, number}
 use Rattle.rules.specs.Answers.{unseen, ascending, is-above}
 use Rattle.rules.specs.declared.Check.the-variants.{Passed}
-use Rattle.rules.proofs.Lists.{by-cases, and-left, and-right, all-nil, all-cons, all-head, all-tail}
+use Rattle.rules.proofs.Lists.{from-index, by-cases, and-left, and-right, all-nil, all-cons, all-head, all-tail}
 use Rattle.rules.proofs.Checks.{then-left, then-right, need-true}
 use Rattle.literal.specs.Signs.{is-pos}
 use Rattle.literal.proofs.Signed.{wider}
-
--- the list from an index on, for a loop that passes it
-pub here : (c : List ℤ) (i : ℕ) → i < length c → drop i c ≡ getD c i (pos 0) ∷ drop (i + 1) c
-here c i h = rw (add-one, drop-cons c i (pos 0))
 
 put-is : (α : Assignment) (l : ℤ) → in-range 2048 l ≡ true → put α l ≡ upd α (natAbs l) (is-pos l)
 unfolding put
@@ -32,7 +26,7 @@ put-is α (negsuc n) h = refl
 module _ (whole : Assignment) (w : List ℤ) (α : Assignment) (i : ℕ) (far : whole ≡ make α (drop i w)) where
   pub made-on : i < length w → in-range 2048 (getD w i (pos 0)) ≡ true → (β : Assignment) → β ≡ upd α (natAbs (getD w i (pos 0))) (is-pos (getD w i (pos 0))) → whole ≡ make β (drop (i + 1) w)
   unfolding make
-  made-on lt r β e = let q = here w i lt in (rw q at far) ∙ ap (λ γ. make γ (drop (i + 1) w)) (put-is α (getD w i (pos 0)) r ∙ sym e)
+  made-on lt r β e = let q = from-index w i (pos 0) lt in (rw q at far) ∙ ap (λ γ. make γ (drop (i + 1) w)) (put-is α (getD w i (pos 0)) r ∙ sym e)
 
   pub made-end : length w ≤ i → α ≡ whole
   unfolding make

@@ -39,15 +39,6 @@ pub fn set_to(words: &mut [u64; 32], v: usize, b: bool)
     words[j] = words[j] ^ (1 << (i % 64));
 }
 
-pub fn assign(words: [u64; 32], v: usize, b: bool) -> [u64; 32]
-    requires { ⌜ (1 ≤ v) × (v ≤ 2048) ⌝ }
-    ensures { λ r. ⌜ assigned r ≡ upd (assigned words) v b ⌝ }
-{
-    let mut out = words;
-    set_to(&mut out, v, b);
-    out
-}
-
 pub fn is_true(words: &[u64; 32], l: i32) -> bool
     requires { ⌜ in-range 2048 l ≡ true ⌝ }
     ensures { λ r. ⌜ r ≡ lit (assigned (now (words .entry))) l ⌝ }
