@@ -1,0 +1,42 @@
+use mathlib.Core.Path.{ap, _∙_}
+use native.Mathlib.Omega.{arith}
+use borrow.Author.Needs.{needs}
+use Rattle.lines.specs.Hex.{hex}
+use Rattle.lines.proofs.Writing.{hex-length, wrote-then, wrote-as}
+use Rattle.lines.proofs.put_numbers.Statement.{statement}
+use Rattle.lines.proofs.put_numbers.Tie as tie
+
+code-requires : tie.Need-code-requires
+code-requires c κs = search needs
+
+cast-put-number : tie.Need-cast-put-number
+cast-put-number c = search needs
+
+put-number-requires : tie.Need-put-number-requires
+put-number-requires c κs = search needs
+
+detail-requires : tie.Need-detail-requires
+detail-requires c κs = search needs
+
+put-number-requires-2 : tie.Need-put-number-requires-2
+put-number-requires-2 c κs = let f = c .before .before .before .before in omega (arith, f .put-number .ensures .place, hex-length 8 (f .before .code .result))
+
+same-length : tie.Need-same-length
+same-length c = search needs
+
+returns : tie.Need-returns
+returns c =
+    wrote-then (wrote-as (ap (hex 8) (c .before .before .before .before .before .before .before .before .code .ensures)) (c .before .before .before .before .before .before .before .put-number .ensures))
+    (wrote-as (ap (hex 8) (c .before .before .before .detail .ensures)) (c .before .before .put-number2 .ensures))
+
+pub put-numbers-spec : {M : Type 1} → statement M
+put-numbers-spec =
+    tie.close
+    (tie.spec
+    code-requires
+    cast-put-number
+    put-number-requires
+    detail-requires
+    put-number-requires-2
+    same-length
+    returns)
