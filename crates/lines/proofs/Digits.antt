@@ -2,20 +2,15 @@
 use mathlib.Core.Path.{_≡_, refl, ap, _∙_}
 use mathlib.Core.Logic.{_⊎_, inl, inr, ⊎-elim}
 use mathlib.Core.List.{List}
-use Prim.Native.Nat.{ℕ, zero, suc, _+_, _-_, _*_, _^_, _≤_, _<_}
+use Prim.Native.Nat.{ℕ, zero, suc, _+_, _*_, _^_, _≤_, _<_}
 use native.Mathlib.Omega.{arith}
 use native.Mathlib.Decide.{decLt}
 use native.Mathlib.Nat.{add-zero, add-suc, add-assoc, pow-suc}
 use lib.ListN.{length, getD, set}
 use lib.Seq.{getD-set-same, getD-set-other}
-use lib.IntN.{ℤ, pos, negsuc, _-ℤ_}
 use lib.Pow.{pow-add}
-use mir.Syntax.{w32}
-use mir.Val.{SFits, toZ, ofZ}
-use mir.Facts.{toZ-ofZ}
 use borrow.Author.Tests.{lt-ltb, le-ltb}
-use Rattle.rules.proofs.Lists.{by-cases}
-use Rattle.lines.specs.Hex.{beyond, digit, value-at, signed}
+use Rattle.lines.specs.Hex.{beyond, digit, value-at}
 use Rattle.lines.specs.Lent.{Values}
 
 -- a byte is a digit, or counts as more than any word
@@ -81,13 +76,14 @@ value-two l i = rw add-zero (omega arith)
 -- j digits, then k more
 pub value-split : (l : List ℕ) (i j k : ℕ) → value-at l i (j + k) ≡ value-at l i j * 16 ^ k + value-at l (i + j) k
 unfolding value-at
-value-split l i j zero = rw add-zero (omega arith)
+value-split l i j zero = rw (add-zero j) (omega arith)
 value-split l i j (suc k) = rw (add-suc j k, add-assoc i j k, value-split l i j k, pow-suc 16 k) (omega arith)
 
 -- ---- a table of values
 
 -- a byte more
-pub values-more : (table : List ℕ) (b : ℕ) {v : ℕ} → b < length table → v ≡ digit b → ((k : ℕ) → k < b → getD table k 0 ≡ digit k) → (k : ℕ) → k < b + 1 → getD (set table b v) k 0 ≡ digit k
+pub values-more : (table : List ℕ) (b : ℕ) {v : ℕ} → b < length table → v ≡ digit b → ((k : ℕ) → k < b → getD table k 0 ≡ digit k)
+    → (k : ℕ) → k < b + 1 → getD (set table b v) k 0 ≡ digit k
 values-more table b {v} h e f k m = elim (decLt k b) [
   | yes y ↦ getD-set-other table b k v 0 (λ q. omega arith) ∙ f k y
   | no n ↦ let q : k ≡ b = omega arith in rw q (getD-set-same table b v 0 h ∙ e)

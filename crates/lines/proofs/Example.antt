@@ -7,12 +7,11 @@ use Prim.Native.Char.{code}
 use Prim.Native.String.{String, [] as end, _∷_ as _on_}
 use Rattle.rules.specs.Lists.{any, all, only}
 use Rattle.rules.specs.Terms.{lit, upd, fetch, room}
-use Rattle.rules.specs.Propagation.{among, read, run, proves}
 use Rattle.rules.specs.Frames.{framed-if, parse, without, above, place, put, make, mend}
 use Rattle.rules.specs.Answers.{_then_, need, flaw, ranged, ascending, cleanly, groups, satisfied, assumed-true, check, differ, outcome}
 use Rattle.rules.specs.Outcomes.{trues}
 use Rattle.lines.specs.Hex.{digit, value-at, signed, glyph, hex}
-use Rattle.lines.specs.Lines.{closed-lines, unclosed, words-of, frame-of, spelled, replies, program, output}
+use Rattle.lines.specs.Lines.{closed-lines, unclosed, words-of, frame-of, spelled, numbered, replies, program, output}
 
 -- a text and 0A
 pub line : String → List ℕ
@@ -38,5 +37,5 @@ expected =
     ++ line "0000000000000000"
 
 pub example : output input ≡ expected
-unfolding line input expected digit value-at signed glyph hex closed-lines unclosed words-of frame-of spelled replies program trues any all only lit upd fetch room framed-if parse without above place put make mend _then_ need flaw ranged ascending cleanly groups satisfied assumed-true check differ outcome xor
+unfolding line input expected digit value-at signed glyph hex closed-lines unclosed words-of frame-of spelled numbered replies program trues any all only lit upd fetch room framed-if parse without above place put make mend _then_ need flaw ranged ascending cleanly groups satisfied assumed-true check differ outcome xor
 example = refl

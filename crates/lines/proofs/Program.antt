@@ -1,6 +1,6 @@
 -- The run of the machine is the program of the whole input, and where the input is cut does not matter.
 use mathlib.Core.Path.{_≡_, refl, sym, ap, _∙_}
-use mathlib.Core.Bool.{Bool, true, false, cond}
+use mathlib.Core.Bool.{true, false}
 use mathlib.Core.List.{List, [], _∷_, _++_, flatten, append-assoc, append-nil}
 use Prim.Native.Nat.{ℕ}
 use native.Mathlib.Omega.{arith}
@@ -91,7 +91,8 @@ run-behind (b ∷ bs) o r = ap (λ x. run x bs) (move-behind o r b) ∙ run-behi
 
 -- ---- digits close no line
 
-pub run-digits : (bs : List ℕ) (l : Line) (s : State) (o : List ℕ) → all is-digit bs ≡ true → run (record { line = l; state = s; out = o }) bs ≡ record { line = reads l bs; state = s; out = o }
+pub run-digits : (bs : List ℕ) (l : Line) (s : State) (o : List ℕ) → all is-digit bs ≡ true
+    → run (record { line = l; state = s; out = o }) bs ≡ record { line = reads l bs; state = s; out = o }
 unfolding run reads move
 run-digits [] l s o a = refl
 run-digits (b ∷ bs) l s o a = rw (digit-moves b (all-head is-digit b bs a)) (run-digits bs (push l b) s o (all-tail is-digit b bs a))

@@ -3,21 +3,21 @@ use mathlib.Core.Path.{_≡_, refl, sym, ap, ap₂, _∙_}
 use mathlib.Core.Bool.{Bool, true, false, not, cond, _&&_}
 use mathlib.Core.Logic.{_⊎_, ⊎-elim}
 use mathlib.Core.List.{List, [], _∷_, _++_}
-use mathlib.Core.Option.{Option, none, some}
-use Prim.Native.Nat.{ℕ, zero, suc, _+_, _*_, _/_, _%_, _^_, _≤_, _<_}
+use Prim.Native.Nat.{ℕ, zero, suc, _+_, _*_, _/_, _%_, _≤_, _<_}
 use native.Mathlib.Omega.{arith}
 use native.Mathlib.Nat.{add-zero, zero-add}
 use lib.Dec.{eqb, ltb, leb}
 use lib.IntN.{ℤ}
-use lib.ListN.{length, getD, take, drop, length-drop}
-use lib.Seq.{take-suc, getD-drop, take-add, take-all}
+use lib.ListN.{length, getD, take}
+use lib.Seq.{slice, slice-empty, take-all}
 use lib.Pow.{pow-mono}
-use borrow.Author.Tests.{lt-ltb, le-ltb, le-leb, lt-leb, leb-true, ltb-true, ltb-false, eq-eqb, ne-eqb, eqb-true, eqb-false}
+use borrow.Author.Tests.{lt-ltb, le-ltb, le-leb, lt-leb, leb-true, ltb-true, ltb-false, eq-eqb, ne-eqb, eqb-true}
 use Rattle.rules.specs.Lists.{all}
 use Rattle.rules.proofs.Lists.{by-cases, and-left, and-right, and-both, true-false, all-nil, all-cons, all-append, all-index}
 use Rattle.lines.specs.Hex.{digit, is-digit, value-at, signed}
 use Rattle.lines.specs.Lines.{words-of, frame-of, ending}
 use Rattle.lines.specs.Machine.{Line, fresh, spoil, roll, grow, push, reads, frame, ended}
+use Rattle.lines.proofs.Slices.{slice-snoc, slice-join}
 use Rattle.lines.proofs.Digits.{Digits, value-below}
 
 pub reads-append : (l : Line) (xs ys : List ℕ) → reads l (xs ++ ys) ≡ reads (reads l xs) ys
@@ -121,15 +121,12 @@ module _ (l : Line) (b : ℕ) where
 
 -- ---- eight digits are a word
 
--- j bytes from place i on, and one more
-one-more : (l : List ℕ) (i j : ℕ) → i + j < length l → take (suc j) (drop i l) ≡ take j (drop i l) ++ (getD l (i + j) 0 ∷ [])
-one-more l i j h = take-suc (drop i l) j 0 (omega (arith, length-drop i l)) ∙ rw (getD-drop i l j 0)
-
-pub digits-all : (l : List ℕ) (i k : ℕ) → i + k ≤ length l → Digits l i k → all is-digit (take k (drop i l)) ≡ true
-digits-all l i zero h ds = all-nil is-digit
+pub digits-all : (l : List ℕ) (i k : ℕ) → i + k ≤ length l → Digits l i k → all is-digit (slice i (i + k) l) ≡ true
+digits-all l i zero h ds = rw (add-zero, slice-empty i l) (all-nil is-digit)
 digits-all l i (suc k) h ds =
-    rw (one-more l i k (omega arith))
-    (all-append is-digit (take k (drop i l)) _ (digits-all l i k (omega arith) (λ j m. ds j (omega arith))) (all-cons is-digit _ [] (lt-ltb _ 16 (ds k (omega arith))) (all-nil is-digit)))
+    let n : i + suc k ≡ i + k + 1 = omega arith in
+    rw (n, slice-snoc i (i + k) l (omega arith) (omega arith))
+    (all-append is-digit (slice i (i + k) l) _ (digits-all l i k (omega arith) (λ j m. ds j (omega arith))) (all-cons is-digit _ [] (lt-ltb _ 16 (ds k (omega arith))) (all-nil is-digit)))
 
 module _ (l : List ℕ) (i k : ℕ) (ws : List ℤ) (inside : i + 8 ≤ length l) (few : k < 4096) (ds : Digits l i 8) where
   -- the first j digits of a word leave room for one more
@@ -137,20 +134,21 @@ module _ (l : List ℕ) (i k : ℕ) (ws : List ℤ) (inside : i + 8 ≤ length l
   unfolding value-at
   rolled j h = omega (arith, value-below l i j (λ n m. ds n (omega arith)), pow-mono {i = 4 * j} {j = 28} (omega arith))
 
-  part-read : (j : ℕ) → j ≤ 7 → reads (reached (8 * k) 0 ws) (take j (drop i l)) ≡ reached (8 * k + j) (value-at l i j) ws
+  part-read : (j : ℕ) → j ≤ 7 → reads (reached (8 * k) 0 ws) (slice i (i + j) l) ≡ reached (8 * k + j) (value-at l i j) ws
   unfolding reads value-at
-  part-read zero h = rw add-zero
+  part-read zero h = rw (add-zero i, add-zero (8 * k), slice-empty i l)
   part-read (suc j) h =
-      let n : 8 * k + suc j ≡ 8 * k + j + 1 = omega arith in
-      rw (one-more l i j (omega arith), reads-snoc (reached (8 * k) 0 ws) (take j (drop i l)) (getD l (i + j) 0), part-read j (omega arith), n)
+      let n : i + suc j ≡ i + j + 1 = omega arith in
+      let d : 8 * k + suc j ≡ 8 * k + j + 1 = omega arith in
+      rw (n, d, slice-snoc i (i + j) l (omega arith) (omega arith), reads-snoc (reached (8 * k) 0 ws) (slice i (i + j) l) (getD l (i + j) 0), part-read j (omega arith))
       (sym (push-digit (reached (8 * k + j) (value-at l i j) ws) (getD l (i + j) 0) refl (ds j (omega arith)) (omega arith) (λ e. omega arith))
       ∙ ap (λ w. reached (8 * k + j + 1) w ws) (rolled j (omega arith)))
 
-  pub word-read : reads (reached (8 * k) 0 ws) (take 8 (drop i l)) ≡ reached (8 * k + 8) 0 (ws ++ (signed (value-at l i 8) ∷ []))
-  unfolding value-at
+  pub word-read : reads (reached (8 * k) 0 ws) (slice i (i + 8) l) ≡ reached (8 * k + 8) 0 (ws ++ (signed (value-at l i 8) ∷ []))
   word-read =
-      let n : 8 * k + 8 ≡ 8 * k + 7 + 1 = omega arith in
-      rw (one-more l i 7 (omega arith), reads-snoc (reached (8 * k) 0 ws) (take 7 (drop i l)) (getD l (i + 7) 0), part-read 7 (omega arith), n)
+      let n : i + 8 ≡ i + 7 + 1 = omega arith in
+      let d : 8 * k + 8 ≡ 8 * k + 7 + 1 = omega arith in
+      rw (n, d, slice-snoc i (i + 7) l (omega arith) (omega arith), reads-snoc (reached (8 * k) 0 ws) (slice i (i + 7) l) (getD l (i + 7) 0), part-read 7 (omega arith))
       (sym (push-eighth (reached (8 * k + 7) (value-at l i 7) ws) (getD l (i + 7) 0) refl (ds 7 (omega arith)) (omega arith) (omega arith))
       ∙ ap (λ w. reached (8 * k + 7 + 1) 0 (ws ++ (signed w ∷ []))) (rolled 7 (omega arith)))
 
@@ -161,7 +159,7 @@ unfolding reads words-of
 words-read l zero h m a = refl
 words-read l (suc k) h m a =
     let n : 8 * suc k ≡ 8 * k + 8 = omega arith in
-    rw (n, take-add (8 * k) 8 l, reads-append fresh (take (8 * k) l) (take 8 (drop (8 * k) l)), words-read l k (omega arith) (omega arith) a)
+    rw (n, ← slice-join 0 (8 * k) (8 * k + 8) l (omega arith) (omega arith) (omega arith), reads-append fresh (take (8 * k) l) (slice (8 * k) (8 * k + 8) l), words-read l k (omega arith) (omega arith) a)
     (word-read l (8 * k) k (words-of l k) (omega arith) (omega arith) (λ j g. ltb-true _ 16 (all-index is-digit l (8 * k + j) 0 (omega arith) a)))
 
 -- a line of whole words

@@ -1,22 +1,20 @@
 -- The loop that takes whole words: what holds at its head, and each way on.
-use mathlib.Core.Path.{_≡_, refl, sym, ap, _∙_}
+use mathlib.Core.Path.{_≡_, refl, ap, _∙_}
 use mathlib.Core.Bool.{Bool, false}
-use mathlib.Core.List.{List, [], _∷_, _++_}
+use mathlib.Core.List.{List}
 use Prim.Native.Nat.{ℕ, suc, _+_, _*_, _/_, _%_, _≤_, _<_}
 use native.Mathlib.Omega.{arith}
 use lib.IntN.{ℤ}
-use lib.ListN.{length, take, drop, set, length-set}
-use lib.Seq.{slice, slice-empty, take-add, take-suc-set, drop-append-le, length-take-le}
+use lib.ListN.{length, take, set, length-set}
+use lib.Seq.{slice, slice-empty, take-suc-set}
 use Rattle.rules.specs.Terms.{State}
 use Rattle.lines.specs.Hex.{beyond, value-at, signed}
-use Rattle.lines.specs.Machine.{Line, reads, Run, run}
+use Rattle.lines.specs.Machine.{Line, reads, run}
 use Rattle.lines.specs.Lent.{Took}
+use Rattle.lines.proofs.Slices.{slice-join}
 use Rattle.lines.proofs.Digits.{value-digits}
 use Rattle.lines.proofs.Reading.{reached, digits-all, word-read}
 use Rattle.lines.proofs.Program.{run-append, run-digits}
-
-pub slice-more : (f i n : ℕ) (l : List ℕ) → f ≤ i → i ≤ length l → slice f (i + n) l ≡ slice f i l ++ take n (drop i l)
-slice-more f i n l h k = rw (take-add i n l) (drop-append-le f (take i l) (take n (drop i l)) (rw (length-take-le i l k) h))
 
 -- the line of k whole words in the frame buffer
 abbrev words-in : ℕ → List ℤ → Line
@@ -42,7 +40,7 @@ pub words-more : {part : List ℕ} {from d : ℕ} {frame₀ frame : List ℤ} {k
 words-more {part} {from} {d} {frame₀} {frame} {k} {i} w h n v m =
     let x = signed (value-at part i 8) in
     let ds = value-digits part i 8 v in
-    let eight = take 8 (drop i part) in
+    let eight = slice i (i + 8) part in
     let more : words-in (8 * (k + 1)) (set frame k x) ≡ reads (words-in (8 * k) frame) eight =
     let here : 8 * k / 8 ≡ k = omega arith in
     let next : 8 * (k + 1) / 8 ≡ suc k = omega arith in
@@ -55,7 +53,7 @@ words-more {part} {from} {d} {frame₀} {frame} {k} {i} w h n v m =
       few = omega arith;
       kept = length-set frame k x ∙ w .kept;
       moved = λ s o.
-          rw (slice-more from i 8 part (w .low) (omega arith), run-append (record { line = words-in d frame₀; state = s; out = o }) (slice from i part) eight, ← w .moved s o)
+          rw (← slice-join from i (i + 8) part (w .low) (omega arith) n, run-append (record { line = words-in d frame₀; state = s; out = o }) (slice from i part) eight, ← w .moved s o)
           (rw (run-digits eight (words-in (8 * k) frame) s o (digits-all part i 8 n ds)) (ap (λ l. record { line = l; state = s; out = o }) more));
     }
 

@@ -50,7 +50,7 @@ spelled [] = []
 spelled (v ∷ vs) = hex 8 v ++ spelled vs
 
 -- "For each line it writes code and detail in the same form"
-abbrev pub numbered : Answer → List ℕ
+unfoldable pub numbered : Answer → List ℕ
 numbered a = hex 8 (numbers a .0) ++ hex 8 (numbers a .1)
 
 abbrev pub written : Answer → List ℕ → List ℕ

@@ -1,4 +1,4 @@
-use mathlib.Core.Path.{_≡_, sym, ap, _∙_}
+use mathlib.Core.Path.{_≡_, ap, _∙_}
 use mathlib.Core.Logic.{⊎-elim, inl, inr}
 use Prim.Native.Nat.{suc, _+_, _/_, _<_}
 use native.Mathlib.Omega.{arith}
@@ -34,7 +34,9 @@ value-requires : tie.Need-value-requires
 value-requires c κs = search needs
 
 returns-2 : tie.Need-returns-2
-returns-2 c = (search needs, push-spoils _ _ (c .before .before .before .if1 .left) (⊎-elim (λ w. inl (omega (arith, value-is (c .before), w .taken))) (λ w. inr (eqb-true _ _ (w .1 .taken))) (c .if2 .came)))
+returns-2 c =
+    let x = c .before in
+    (search needs, push-spoils _ _ (x .before .before .if1 .left) (⊎-elim (λ w. inl (omega (arith, value-is x, w .taken))) (λ w. inr (eqb-true _ _ (w .1 .taken))) (c .if2 .came)))
 
 mul-w : tie.Need-mul-w
 mul-w c = search needs

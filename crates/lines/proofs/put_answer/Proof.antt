@@ -1,7 +1,8 @@
 use native.Mathlib.Omega.{arith}
 use borrow.Author.Needs.{needs}
 use Rattle.lines.specs.Lines.{spelled}
-use Rattle.lines.proofs.Writing.{numbered-length, wrote-then}
+use Rattle.lines.proofs.Writing.{wrote-then}
+use Rattle.lines.proofs.Replies.{numbered-end}
 use Rattle.lines.proofs.put_answer.Statement.{statement}
 use Rattle.lines.proofs.put_answer.Tie as tie
 
@@ -9,7 +10,7 @@ put-numbers-requires : tie.Need-put-numbers-requires
 put-numbers-requires c κs = search needs
 
 put-requires : tie.Need-put-requires
-put-requires c κs = omega (arith, c .before .before .before .put-numbers .ensures .place, numbered-length (c .before .before .before .before .before .before .args .answer))
+put-requires c κs = omega (arith, numbered-end _ (c .before .before .before .put-numbers .ensures))
 
 same-length : tie.Need-same-length
 same-length c = search needs

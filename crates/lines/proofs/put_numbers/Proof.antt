@@ -1,8 +1,9 @@
-use mathlib.Core.Path.{ap, _∙_}
+use mathlib.Core.Path.{ap}
 use native.Mathlib.Omega.{arith}
 use borrow.Author.Needs.{needs}
 use Rattle.lines.specs.Hex.{hex}
-use Rattle.lines.proofs.Writing.{hex-length, wrote-then, wrote-as}
+use Rattle.lines.specs.Lines.{numbered}
+use Rattle.lines.proofs.Writing.{hex-end, wrote-then, wrote-as}
 use Rattle.lines.proofs.put_numbers.Statement.{statement}
 use Rattle.lines.proofs.put_numbers.Tie as tie
 
@@ -19,14 +20,16 @@ detail-requires : tie.Need-detail-requires
 detail-requires c κs = search needs
 
 put-number-requires-2 : tie.Need-put-number-requires-2
-put-number-requires-2 c κs = let f = c .before .before .before .before in omega (arith, f .put-number .ensures .place, hex-length 8 (f .before .code .result))
+put-number-requires-2 c κs = omega (arith, hex-end 8 _ (c .before .before .before .before .put-number .ensures))
 
 same-length : tie.Need-same-length
 same-length c = search needs
 
 returns : tie.Need-returns
+unfolding numbered
 returns c =
-    wrote-then (wrote-as (ap (hex 8) (c .before .before .before .before .before .before .before .before .code .ensures)) (c .before .before .before .before .before .before .before .put-number .ensures))
+    let first = c .before .before .before .before .before .before .before in
+    wrote-then (wrote-as (ap (hex 8) (first .before .code .ensures)) (first .put-number .ensures))
     (wrote-as (ap (hex 8) (c .before .before .before .detail .ensures)) (c .before .before .put-number2 .ensures))
 
 pub put-numbers-spec : {M : Type 1} → statement M

@@ -1,4 +1,3 @@
-use mathlib.Core.Path.{_≡_}
 use Prim.Native.Nat.{_-_, _<_}
 use native.Mathlib.Omega.{arith}
 use borrow.Author.Needs.{needs}
@@ -51,7 +50,8 @@ loop-again c =
     let l = c .before .before .before .before .before .loop in
     let e = c .before .before .eight .ensures in
     let small : value-at (s .args .part .now) (l .i) 8 < beyond = omega (arith, c .before .if5 .left, e) in
-    rw (c .signed-of .ensures, e, stored _ small) (words-more (l .inv) (c .before .before .before .before .loop-test .taken) (omega (arith, c .before .before .before .if4 .left, l .inv .high)) small (s .pre .2))
+    rw (c .signed-of .ensures, e, stored _ small)
+    (words-more (l .inv) (c .before .before .before .before .loop-test .taken) (omega (arith, c .before .before .before .if4 .left, l .inv .high)) small (s .pre .2))
 
 mul-t19 : tie.Need-mul-t19 Inv-loop μ-loop
 mul-t19 c = search needs
