@@ -93,12 +93,13 @@ module _ {o : List ℕ} {at : ℕ} {ws o′ : List ℕ} {a i : ℕ} (w : Spellin
   pub spelling-room : a + 8 ≤ at + 16384
   spelling-room = omega (arith, model-room (assigned ws) i (w .wrote))
 
-  pub spelling-true : {o₂ : List ℕ} {a₂ : ℕ} → getD ws (i / 64) 0 / 2 ^ (i % 64) % 2 ≡ 1 → length o₂ ≡ length o′ → Wrote o′ a (hex 8 (i + 1)) o₂ a₂ → Spelling o at ws o₂ a₂ (i + 1)
+  pub spelling-true : {o₂ : List ℕ} {a₂ : ℕ} → getD ws (i / 64) 0 / 2 ^ (i % 64) % 2 ≡ 1 → length o₂ ≡ length o′ → Wrote o′ a (hex 8 (i + 1)) o₂ a₂
+      → Spelling o at ws o₂ a₂ (i + 1)
   spelling-true e k p = record {
-        few = omega arith;
-        size = k ∙ w .size;
-        wrote = wrote-as (sym (trues-more (assigned ws) i (bit-read ws i ∙ eq-eqb _ 1 e))) (wrote-then (w .wrote) p);
-      }
+    few = omega arith;
+    size = k ∙ w .size;
+    wrote = wrote-as (sym (trues-more (assigned ws) i (bit-read ws i ∙ eq-eqb _ 1 e))) (wrote-then (w .wrote) p);
+  }
 
   -- k variables that are false
   past : (k : ℕ) → i + k ≤ 2048 → ((v : ℕ) → i < v → v ≤ i + k → assigned ws v ≡ false) → Spelling o at ws o′ a (i + k)

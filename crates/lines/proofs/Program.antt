@@ -22,6 +22,10 @@ unfolding run
 run-append r [] ys = refl
 run-append r (x ∷ xs) ys = run-append (move r x) xs ys
 
+pub run-snoc : (r : Run) (xs : List ℕ) (b : ℕ) → run r (xs ++ (b ∷ [])) ≡ move (run r xs) b
+unfolding run
+run-snoc r xs b = run-append r xs (b ∷ [])
+
 -- parts of any lengths, some empty
 pub in-parts : (ps : List (List ℕ)) (r : Run) → run-parts r ps ≡ run r (flatten ps)
 unfolding run run-parts flatten

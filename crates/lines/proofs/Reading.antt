@@ -20,7 +20,7 @@ use Rattle.lines.specs.Machine.{Line, fresh, spoil, roll, grow, push, re
 use Rattle.lines.proofs.Slices.{slice-snoc, slice-join}
 use Rattle.lines.proofs.Digits.{Digits, value-below}
 
-pub reads-append : (l : Line) (xs ys : List ℕ) → reads l (xs ++ ys) ≡ reads (reads l xs) ys
+reads-append : (l : Line) (xs ys : List ℕ) → reads l (xs ++ ys) ≡ reads (reads l xs) ys
 unfolding reads
 reads-append l [] ys = refl
 reads-append l (x ∷ xs) ys = reads-append (push l x) xs ys
@@ -73,9 +73,10 @@ fits-not d b bs t = by-cases (is-digit b)
     (λ e. let k = ltb-false d 32768 (rw e at t) in rw (e, lt-leb (d + suc (length bs)) 32768 (omega arith)) (and-false (all is-digit bs)))
     (λ e. rw e)
 
-pub record Reads (l : Line) (bs : List ℕ) : Type 0 where
-  pub spoils : reads l bs .spoilt ≡ not (fits (l .digits) bs)
-  pub counts : fits (l .digits) bs ≡ true → reads l bs .digits ≡ l .digits + length bs
+-- what reading bytes does to a line that is not spoilt
+record Reads (l : Line) (bs : List ℕ) : Type 0 where
+  spoils : reads l bs .spoilt ≡ not (fits (l .digits) bs)
+  counts : fits (l .digits) bs ≡ true → reads l bs .digits ≡ l .digits + length bs
 
 reading : (bs : List ℕ) (l : Line) → l .spoilt ≡ false → l .digits ≤ 32768 → Reads l bs
 unfolding reads all
@@ -159,7 +160,8 @@ unfolding reads words-of
 words-read l zero h m a = refl
 words-read l (suc k) h m a =
     let n : 8 * suc k ≡ 8 * k + 8 = omega arith in
-    rw (n, ← slice-join 0 (8 * k) (8 * k + 8) l (omega arith) (omega arith) (omega arith), reads-append fresh (take (8 * k) l) (slice (8 * k) (8 * k + 8) l), words-read l k (omega arith) (omega arith) a)
+    let j = slice-join 0 (8 * k) (8 * k + 8) l (omega arith) (omega arith) (omega arith) in
+    rw (n, ← j, reads-append fresh (take (8 * k) l) (slice (8 * k) (8 * k + 8) l), words-read l k (omega arith) (omega arith) a)
     (word-read l (8 * k) k (words-of l k) (omega arith) (omega arith) (λ j g. ltb-true _ 16 (all-index is-digit l (8 * k + j) 0 (omega arith) a)))
 
 -- a line of whole words

@@ -2,6 +2,7 @@
 use mathlib.Core.Path.{_≡_, refl}
 use mathlib.Core.Bool.{Bool, true, false, cond}
 use mathlib.Core.List.{List, [], _∷_, _++_}
+use mathlib.Core.Option.{Option, none, some}
 use Prim.Native.Nat.{ℕ, _+_, _≤_}
 use native.Mathlib.Omega.{arith}
 use lib.ListN.{length, length-append}
@@ -15,7 +16,7 @@ use Rattle.rules.specs.declared.Fault.the-variants.{Malformed}
 use Rattle.rules.specs.declared.Check.{Check}
 use Rattle.rules.specs.declared.Check.the-variants.{Passed, Failed}
 use Rattle.lines.specs.Hex.{hex}
-use Rattle.lines.specs.Lines.{spelled, numbered, following, reply, refusal}
+use Rattle.lines.specs.Lines.{judged, spelled, numbered, following, reply, refusal}
 use Rattle.lines.specs.Machine.{is-begun, ended}
 use Rattle.lines.specs.Lent.{Wrote}
 use Rattle.lines.proofs.Writing.{hex-length}
@@ -47,10 +48,11 @@ ended-room d spoilt w = omega (arith, w .place, few (is-begun d spoilt))
     few true = omega (arith, length-append (numbered (Refused Malformed)) (10 ∷ []), numbered-length (Refused Malformed))
     few false = omega arith
 
--- a run keeps V
-pub vars-kept : (s : State) (ws : List ℤ) → outcome s ws .state .vars ≡ s .vars
+-- no line changes V
+pub vars-kept : (s : State) (f : Option (List ℤ)) → judged s f .state .vars ≡ s .vars
 unfolding outcome
-vars-kept s ws = parsed (parse ws)
+vars-kept s none = refl
+vars-kept s (some ws) = parsed (parse ws)
   where
     after : (f : Frame) → next s f .vars ≡ s .vars
     after (ADD i c) = refl
@@ -63,10 +65,10 @@ vars-kept s ws = parsed (parse ws)
     after (SAT assumed vs) = refl
     after (UNSAT assumed hints) = refl
 
-    judging : (f : Frame) (c : Check) → settled s f c .state .vars ≡ s .vars
-    judging f Passed = after f
-    judging f (Failed e) = refl
+    passed : (f : Frame) (c : Check) → settled s f c .state .vars ≡ s .vars
+    passed f Passed = after f
+    passed f (Failed e) = refl
 
     parsed : (p : Parsed) → outcome-parsed s p .state .vars ≡ s .vars
     parsed malformed = refl
-    parsed (framed f) = judging f (check s f)
+    parsed (framed f) = passed f (check s f)

@@ -64,6 +64,10 @@ pub record Run : Type 0 where
   pub state : State
   pub out : List ℕ
 
+-- what a reader, the frame buffer, a state and the first a bytes of the out buffer hold
+abbrev pub run-of : Reader → List ℤ → State → List ℕ → ℕ → Run
+run-of r frame s out a = record { line = line-of r frame; state = s; out = take a out }
+
 abbrev pub started : State → Run
 started s = record { line = fresh; state = s; out = [] }
 

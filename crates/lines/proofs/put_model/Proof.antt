@@ -34,28 +34,27 @@ loop-less : tie.Need-loop-less Inv-loop μ-loop
 loop-less c = search needs
 
 loop-again : tie.Need-loop-again Inv-loop μ-loop
-loop-again c = let t = c .before .before in spelling-past (t .before .loop .inv) (t .loop-test .taken) (c .if1 .taken)
+loop-again c = spelling-past (c .before .before .before .loop .inv) (search needs) (c .if1 .taken)
 
 add-i-2 : tie.Need-add-i-2 Inv-loop μ-loop
 add-i-2 c = search needs
 
 put-number-requires : tie.Need-put-number-requires Inv-loop μ-loop
-put-number-requires c κs = let t = c .before .before .before .before in omega (arith, spelling-room (t .before .loop .inv) (t .loop-test .taken), t .before .loop .inv .size)
+put-number-requires c κs = let l = c .before .before .before .before .before .loop in omega (arith, spelling-room (l .inv) (search needs), l .inv .size)
 
 loop-less-2 : tie.Need-loop-less-2 Inv-loop μ-loop
 loop-less-2 c = search needs
 
 loop-again-2 : tie.Need-loop-again-2 Inv-loop μ-loop
 loop-again-2 c =
-    let t = c .before .before .before .before .before .before .before in
     let p = c .before .before .put-number in
-    spelling-true (t .before .loop .inv) (t .loop-test .taken) (c .before .before .before .before .if2 .taken) (p .kept .0) (p .ensures)
+    spelling-true (c .before .before .before .before .before .before .before .before .loop .inv) (search needs) (c .before .before .before .before .if2 .taken) (p .kept .0) (p .ensures)
 
 loop-less-3 : tie.Need-loop-less-3 Inv-loop μ-loop
 loop-less-3 c = search needs
 
 loop-again-3 : tie.Need-loop-again-3 Inv-loop μ-loop
-loop-again-3 c = let t = c .before .before .before in spelling-false (t .before .loop .inv) (t .loop-test .taken) (c .if2 .left)
+loop-again-3 c = spelling-false (c .before .before .before .before .loop .inv) (search needs) (c .if2 .left)
 
 same-length : tie.Need-same-length Inv-loop μ-loop
 same-length c = search needs
