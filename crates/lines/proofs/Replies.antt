@@ -1,0 +1,74 @@
+-- A reply: the place behind its code and detail, the room that it takes, and V, which no frame changes.
+use mathlib.Core.Path.{_≡_, refl}
+use mathlib.Core.Bool.{Bool, true, false, cond}
+use mathlib.Core.List.{List, [], _∷_, _++_}
+use mathlib.Core.Option.{Option, none, some}
+use Prim.Native.Nat.{ℕ, _+_, _≤_}
+use native.Mathlib.Omega.{arith}
+use lib.ListN.{length, length-append}
+use lib.IntN.{ℤ}
+use Rattle.rules.specs.Terms.{State}
+use Rattle.rules.specs.Frames.{Frame, ADD, LEARN, FORGET, PROMOTE, DROP, WEAKEN, RESTORE, SAT, UNSAT, Parsed, malformed, framed, parse, next}
+use Rattle.rules.specs.Answers.{numbers, Handed, untouched, mended, Outcome, outcome, outcome-parsed, settled, check}
+use Rattle.rules.specs.declared.Answer.{Answer}
+use Rattle.rules.specs.declared.Answer.the-variants.{Refused}
+use Rattle.rules.specs.declared.Fault.the-variants.{Malformed}
+use Rattle.rules.specs.declared.Check.{Check}
+use Rattle.rules.specs.declared.Check.the-variants.{Passed, Failed}
+use Rattle.lines.specs.Hex.{hex}
+use Rattle.lines.specs.Lines.{judged, spelled, numbered, following, reply, refusal}
+use Rattle.lines.specs.Machine.{is-begun, ended}
+use Rattle.lines.specs.Lent.{Wrote}
+use Rattle.lines.proofs.Writing.{hex-length}
+use Rattle.lines.proofs.Model.{spelled-length, trues-few}
+
+numbered-length : (a : Answer) → length (numbered a) ≡ 16
+unfolding numbered
+numbered-length a = omega (arith, length-append (hex 8 (numbers a .0)) (hex 8 (numbers a .1)), hex-length 8 (numbers a .0), hex-length 8 (numbers a .1))
+
+-- the place behind code and detail
+pub numbered-end : {o : List ℕ} {at : ℕ} (x : Answer) {o′ : List ℕ} {a : ℕ} → Wrote o at (numbered x) o′ a → a ≡ at + 16
+numbered-end x w = omega (arith, w .place, numbered-length x)
+
+-- room for any reply
+pub reply-room : {o : List ℕ} {at : ℕ} (vars : ℕ) (r : Outcome) {o′ : List ℕ} {a : ℕ} → vars ≤ 2048 → Wrote o at (reply vars r) o′ a → a ≤ at + 16401
+reply-room vars r h w =
+    let vs = following vars (r .handed) in
+    omega (arith, w .place, length-append (numbered (r .answer)) (spelled vs ++ (10 ∷ [])), length-append (spelled vs) (10 ∷ []), numbered-length (r .answer), spelled-length vs, few (r .handed))
+  where
+    few : (h : Handed) → length (following vars h) ≤ vars
+    few untouched = omega arith
+    few (mended α β) = omega (arith, trues-few β vars [])
+
+pub ended-room : {o : List ℕ} {at : ℕ} (d : ℕ) (spoilt : Bool) {o′ : List ℕ} {a : ℕ} → Wrote o at (ended d spoilt) o′ a → a ≤ at + 17
+unfolding spelled
+ended-room d spoilt w = omega (arith, w .place, few (is-begun d spoilt))
+  where
+    few : (begun : Bool) → length (cond begun refusal []) ≤ 17
+    few true = omega (arith, length-append (numbered (Refused Malformed)) (10 ∷ []), numbered-length (Refused Malformed))
+    few false = omega arith
+
+-- no line changes V
+pub vars-kept : (s : State) (f : Option (List ℤ)) → judged s f .state .vars ≡ s .vars
+unfolding outcome
+vars-kept s none = refl
+vars-kept s (some ws) = parsed (parse ws)
+  where
+    after : (f : Frame) → next s f .vars ≡ s .vars
+    after (ADD i c) = refl
+    after (LEARN i c hints) = refl
+    after (FORGET i) = refl
+    after (PROMOTE i) = refl
+    after (DROP i hints) = refl
+    after (WEAKEN i w groups) = refl
+    after (RESTORE i) = refl
+    after (SAT assumed vs) = refl
+    after (UNSAT assumed hints) = refl
+
+    passed : (f : Frame) (c : Check) → settled s f c .state .vars ≡ s .vars
+    passed f Passed = after f
+    passed f (Failed e) = refl
+
+    parsed : (p : Parsed) → outcome-parsed s p .state .vars ≡ s .vars
+    parsed malformed = refl
+    parsed (framed f) = passed f (check s f)
