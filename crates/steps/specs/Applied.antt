@@ -1,0 +1,31 @@
+-- A frame, judged and applied: the paper's answer; where it passes, the tables spell the paper's next state; where it does not, they are as they were.
+use mathlib.Core.Path.{_≡_}
+use mathlib.Core.List.{List}
+use Prim.Native.Nat.{ℕ}
+use lib.IntN.{ℤ}
+use Rattle.rules.specs.Frames.{Frame}
+use Rattle.rules.specs.Answers.{check}
+use Rattle.rules.specs.declared.Fault.{Fault}
+use Rattle.rules.specs.declared.Check.{Check}
+use Rattle.rules.specs.declared.Check.the-variants.{Passed, Failed}
+use Rattle.rules.specs.declared.Answer.{Answer}
+use Rattle.rules.specs.declared.Answer.the-variants.{Accepted, Refused}
+use Rattle.table.specs.Spelled.{Row, spelled, Moved}
+use Rattle.table.specs.declared.Table.{Table}
+use Rattle.steps.specs.declared.Stepped.{Stepped}
+
+-- the answer to a frame that hands out no model
+abbrev pub answer-of : Check → Answer
+answer-of Passed = Accepted 0
+answer-of (Failed e) = Refused e
+
+pub record Same (t : Table) (rows : List Row) (pool : List ℤ) (stack : List ℕ) (t′ : Table) (rows′ : List Row) (pool′ : List ℤ) (stack′ : List ℕ) : Type 0 where
+  pub table : t′ ≡ t
+  pub same-rows : rows′ ≡ rows
+  pub same-pool : pool′ ≡ pool
+  pub same-stack : stack′ ≡ stack
+
+pub record Applied (t : Table) (rows : List Row) (pool : List ℤ) (stack : List ℕ) (f : Frame) (r : Stepped) (rows′ : List Row) (pool′ : List ℤ) (stack′ : List ℕ) : Type 0 where
+  pub answered : r .answer ≡ answer-of (check (spelled t rows pool stack) f)
+  pub moved : check (spelled t rows pool stack) f ≡ Passed → Moved t rows pool stack (r .table) rows′ pool′ stack′ f
+  pub left : (e : Fault) → check (spelled t rows pool stack) f ≡ Failed e → Same t rows pool stack (r .table) rows′ pool′ stack′

@@ -1,0 +1,2 @@
+-- What a frame's application promises.
+pub mod Applied
