@@ -3,7 +3,7 @@ use mathlib.Core.Path.{_≡_, refl, sym, _∙_, ap}
 use mathlib.Core.Logic.{⊎-elim}
 use mathlib.Core.List.{List, [], _∷_, _++_, reverse, reverse-cons, List·Memᴰ, List·Memᴰ·head, List·Memᴰ·tail, List·Memᴰ·append-cases, List·Memᴰ·cases-cons, List·Memᴰ·eq-of-singleton, List·Memᴰ·not-nil, append-assoc, append-nil}
 use Prim.Native.Nat.{ℕ, zero, suc, _+_, _-_, _<_, _≤_}
-use native.Mathlib.Nat.{sub-self, add-sub-of-le, eq-or-lt-of-le}
+use native.Mathlib.Nat.{sub-self, add-sub-of-le, add-sub-cancel-left, eq-or-lt-of-le}
 use native.Mathlib.Numerals.{add-one}
 use native.Mathlib.Omega.{arith}
 use lib.ListN.{length, getD, set, take, drop, length-append, length-drop, take-append-drop}
@@ -25,6 +25,10 @@ module _ {A : Type 0} where
 
   pub part-same : (l k : List A) (u s n : ℕ) → take u k ≡ take u l → s + n ≤ u → take n (drop s k) ≡ take n (drop s l)
   part-same l k u s n e h = sym (part-within k u s n h) ∙ ap (λ (z : List A). take n (drop s z)) e ∙ part-within l u s n h
+
+  -- `&l[x..x + y]`
+  pub part-is : (l : List A) {x y s n : ℕ} → x ≡ s → y ≡ n → take (x + y - x) (drop x l) ≡ take n (drop s l)
+  part-is l e h = rw (add-sub-cancel-left, e, h)
 
   -- a list split in two ways at one place
   pub split-same : (us vs : List A) (e d : A) (fs gs : List A) → us ++ e ∷ fs ≡ vs ++ d ∷ gs → length us ≡ length vs → (us ≡ vs) × (e ≡ d) × (fs ≡ gs)
@@ -63,6 +67,10 @@ module _ {A : Type 0} where
   pub length-over : (d s : List A) → length s ≤ length d → length (over d s) ≡ length d
   length-over d s h = omega (arith, length-append s (drop (length s) d), length-drop (length s) d)
 
+  -- `&z[0..n]`, of what was written over the front
+  pub over-front : (s y : List A) {z c : List A} {n : ℕ} → z ≡ s ++ y → s ≡ c → n ≡ length c → take (n - 0) z ≡ c
+  over-front s y {c} {n} e h k = let w : n - 0 ≡ length c = omega arith in rw (w, e, h) (take-append-seam c y)
+
   pub length-tail : (l : List A) (u : ℕ) → length (midOf u (length l - u) l) ≡ length l - u
   length-tail l u = length-take-le (length l - u) (drop u l) (omega (arith, length-drop u l))
 
@@ -85,7 +93,7 @@ module _ {A : Type 0} where
 
     pub length-written : at + length s ≤ length d → length (written d at s) ≡ length d
     length-written k =
-      omega (arith, length-append (take at d) (over (drop at d) s), length-take-le at d h, length-over (drop at d) s (omega (arith, length-drop at d)), length-drop at d)
+        omega (arith, length-append (take at d) (over (drop at d) s), length-take-le at d h, length-over (drop at d) s (omega (arith, length-drop at d)), length-drop at d)
 
   -- ---- closed
 
@@ -99,9 +107,9 @@ module _ {A : Type 0} where
 
     length-front : (j : ℕ) → i ≤ j → j < length l → length (front j) ≡ j
     length-front j ij jl =
-      let a : length (take i l) ≡ i = length-take-le i l (omega arith) in
-      let b : length (take (j - i) (drop (suc i) l)) ≡ j - i = length-take-le (j - i) (drop (suc i) l) (omega (arith, length-drop (suc i) l)) in
-      omega (arith, length-append (take i l) (take (j - i) (drop (suc i) l)))
+        let a : length (take i l) ≡ i = length-take-le i l (omega arith) in
+        let b : length (take (j - i) (drop (suc i) l)) ≡ j - i = length-take-le (j - i) (drop (suc i) l) (omega (arith, length-drop (suc i) l)) in
+        omega (arith, length-append (take i l) (take (j - i) (drop (suc i) l)))
 
     pub length-closed : (j : ℕ) → i ≤ j → j < length l → length (closed l i j) ≡ length l
     length-closed j ij jl = ap length (closed-is j) ∙ omega (arith, length-append (front j) (drop j l), length-front j ij jl, length-drop j l)
@@ -112,33 +120,33 @@ module _ {A : Type 0} where
     -- a turn of the loop that shifts
     pub closed-next : (j : ℕ) (d : A) → i ≤ j → j + 1 < length l → set (closed l i j) j (getD (closed l i j) (j + 1) d) ≡ closed l i (j + 1)
     closed-next j d ij jl =
-      let jl₀ : j < length l = omega arith in
-      let lf : length (front j) ≡ j = length-front j ij jl₀ in
-      let m : List A = drop (suc i) l in
-      let lm : j - i < length m = omega (arith, length-drop (suc i) l) in
-      let x : A = getD l (suc j) d in
-      let read : getD (closed l i j) (j + 1) d ≡ x =
-          ap (λ (r : List A). getD r (j + 1) d) (closed-is j)
-          ∙ ap (λ (k : ℕ). getD (front j ++ drop j l) k d) (sym (ap (λ (k : ℕ). k + 1) lf))
-          ∙ getD-append-add (front j) (drop j l) 1 d ∙ getD-drop j l 1 d ∙ ap (λ (k : ℕ). getD l k d) (add-one j) in
-      let at-last : suc i + (j - i) ≡ suc j = omega arith in
-      let last : getD m (j - i) d ≡ x = getD-drop (suc i) l (j - i) d ∙ ap (λ (k : ℕ). getD l k d) at-last in
-      let one : suc (j - i) ≡ j + 1 - i = omega arith in
-      ap (λ (y : A). set (closed l i j) j y) read
-      ∙ ap (λ (r : List A). set r j x) (closed-is j ∙ ap (λ (r : List A). front j ++ r) (drop-cons l j d jl₀))
-      ∙ set-at (front j) (getD l j d) (drop (suc j) l) x j lf
-      ∙ append-assoc (take i l) (take (j - i) m) (x ∷ drop (suc j) l)
-      ∙ ap (λ (r : List A). take i l ++ r) (sym (append-snoc (take (j - i) m) x (drop (suc j) l))
-      ∙ ap (λ (y : A). (take (j - i) m ++ (y ∷ [])) ++ drop (suc j) l) (sym last) ∙ ap (λ (r : List A). r ++ drop (suc j) l) (sym (take-suc m (j - i) d lm))
-      ∙ ap (λ (k : ℕ). take k m ++ drop (suc j) l) one ∙ ap (λ (k : ℕ). take (j + 1 - i) m ++ drop k l) (sym (add-one j)))
+        let jl₀ : j < length l = omega arith in
+        let lf : length (front j) ≡ j = length-front j ij jl₀ in
+        let m : List A = drop (suc i) l in
+        let lm : j - i < length m = omega (arith, length-drop (suc i) l) in
+        let x : A = getD l (suc j) d in
+        let read : getD (closed l i j) (j + 1) d ≡ x =
+        ap (λ (r : List A). getD r (j + 1) d) (closed-is j)
+        ∙ ap (λ (k : ℕ). getD (front j ++ drop j l) k d) (sym (ap (λ (k : ℕ). k + 1) lf))
+        ∙ getD-append-add (front j) (drop j l) 1 d ∙ getD-drop j l 1 d ∙ ap (λ (k : ℕ). getD l k d) (add-one j) in
+        let at-last : suc i + (j - i) ≡ suc j = omega arith in
+        let last : getD m (j - i) d ≡ x = getD-drop (suc i) l (j - i) d ∙ ap (λ (k : ℕ). getD l k d) at-last in
+        let one : suc (j - i) ≡ j + 1 - i = omega arith in
+        ap (λ (y : A). set (closed l i j) j y) read
+        ∙ ap (λ (r : List A). set r j x) (closed-is j ∙ ap (λ (r : List A). front j ++ r) (drop-cons l j d jl₀))
+        ∙ set-at (front j) (getD l j d) (drop (suc j) l) x j lf
+        ∙ append-assoc (take i l) (take (j - i) m) (x ∷ drop (suc j) l)
+        ∙ ap (λ (r : List A). take i l ++ r) (sym (append-snoc (take (j - i) m) x (drop (suc j) l))
+        ∙ ap (λ (y : A). (take (j - i) m ++ (y ∷ [])) ++ drop (suc j) l) (sym last) ∙ ap (λ (r : List A). r ++ drop (suc j) l) (sym (take-suc m (j - i) d lm))
+        ∙ ap (λ (k : ℕ). take k m ++ drop (suc j) l) one ∙ ap (λ (k : ℕ). take (j + 1 - i) m ++ drop k l) (sym (add-one j)))
 
     -- the first n, with the one at i gone
     pub take-closed : (n : ℕ) → i < n → n ≤ length l → take (n - 1) (closed l i (n - 1)) ≡ take i (take n l) ++ drop (suc i) (take n l)
     take-closed n h k =
-      let j : n - 1 - i ≡ n - suc i = omega arith in
-      let a = take-take i n l (omega arith) in
-      let b = drop-take (suc i) n l in
-      ap (take (n - 1)) (closed-is (n - 1)) ∙ take-at (front (n - 1)) (drop (n - 1) l) (n - 1) (length-front (n - 1) (omega arith) (omega arith)) ∙ rw (a, b, j)
+        let j : n - 1 - i ≡ n - suc i = omega arith in
+        let a = take-take i n l (omega arith) in
+        let b = drop-take (suc i) n l in
+        ap (take (n - 1)) (closed-is (n - 1)) ∙ take-at (front (n - 1)) (drop (n - 1) l) (n - 1) (length-front (n - 1) (omega arith) (omega arith)) ∙ rw (a, b, j)
 
 -- ---- the search for a number that is there
 

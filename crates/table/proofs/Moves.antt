@@ -36,27 +36,28 @@ appended t id n = record { vars = t .vars; highest = id; count = t .count + 1; w
 module _ {t : Table} {rows : List Row} {pool : List ℤ} {stack : List ℕ} (f : Fit t rows pool stack) where
   -- the lent slices are as long as they were, and V is what it was
   pub refit : {t′ : Table} {rows′ : List Row} {pool′ : List ℤ} {stack′ : List ℕ} → t′ .vars ≡ t .vars → length rows′ ≡ length rows → length pool′ ≡ length pool → length stack′ ≡ length stack →
-    t′ .count ≤ length rows → t′ .top ≤ length pool → t′ .depth ≤ length stack →
-    Core (t .vars) (t′ .highest) (t′ .top) (t′ .words) (held-rows t′ rows′) pool′ (from-top t′ stack′) → Fit t′ rows′ pool′ stack′
+      t′ .count ≤ length rows → t′ .top ≤ length pool → t′ .depth ≤ length stack →
+      Core (t .vars) (t′ .highest) (t′ .top) (t′ .words) (held-rows t′ rows′) pool′ (from-top t′ stack′) → Fit t′ rows′ pool′ stack′
   refit e a b c x y z k =
-    let v = f .vars-fit in
-    let p = f .rows-lent in
-    let q = f .pool-lent in
-    let r = f .stack-lent in
-    record {
-      vars-fit = (omega arith, omega arith);
-      rows-lent = omega arith;
-      pool-lent = omega arith;
-      stack-lent = omega arith;
-      rows-fit = omega arith;
-      pool-fit = omega arith;
-      stack-fit = omega arith;
-      core = rw e k }
+      let v = f .vars-fit in
+      let p = f .rows-lent in
+      let q = f .pool-lent in
+      let r = f .stack-lent in
+      record {
+        vars-fit = (omega arith, omega arith);
+        rows-lent = omega arith;
+        pool-lent = omega arith;
+        stack-lent = omega arith;
+        rows-fit = omega arith;
+        pool-fit = omega arith;
+        stack-fit = omega arith;
+        core = rw e k;
+      }
 
   pub moved-by : {t′ : Table} {rows′ : List Row} {pool′ : List ℤ} {stack′ : List ℕ} {g : Frame} → Fit t′ rows′ pool′ stack′ → length rows′ ≡ length rows → length pool′ ≡ length pool →
-    state-of (t′ .vars) (t′ .highest) (length rows) (length pool) (map (entry pool′) (held-rows t′ rows′)) (from-top t′ stack′)
+      state-of (t′ .vars) (t′ .highest) (length rows) (length pool) (map (entry pool′) (held-rows t′ rows′)) (from-top t′ stack′)
       ≡ next (state-of (t .vars) (t .highest) (length rows) (length pool) (map (entry pool) (held-rows t rows)) (from-top t stack)) g →
-    Moved t rows pool stack t′ rows′ pool′ stack′ g
+      Moved t rows pool stack t′ rows′ pool′ stack′ g
   moved-by {t′} {rows′} {pool′} {stack′} {g} k a b e = record { fit = k; state = spelled-is t′ rows′ pool′ stack′ ∙ rw (a, b) e ∙ ap (λ s. next s g) (sym (spelled-is t rows pool stack)) }
 
   abbrev hr : List Row
@@ -79,28 +80,29 @@ module _ {t : Table} {rows : List Row} {pool : List ℤ} {stack : List ℕ} (f :
 
     comes : (p : ℕ) → Lawful (t .vars) p (plain id lits) → Comes (t .vars) (t .highest) (t .top) hr [] pool (new-row p) id (t .top + length lits) pool′
     comes p l =
-      let n = append-nil hr in
-      let e = new-entry p in
-      record {
-        behind = below;
-        ahead-of = none;
-        higher = omega arith;
-        known = (omega arith, omega arith);
-        grows = omega arith;
-        inside = omega arith;
-        clear = rw n (clear-tail (new-row p) (f .core .inside));
-        same = written-before pool (t .top) lits (f .pool-fit);
-        lawful = subst (λ x. Lawful (t .vars) (x .where-is) (x .what)) (sym e) l }
+        let n = append-nil hr in
+        let e = new-entry p in
+        record {
+          behind = below;
+          ahead-of = none;
+          higher = omega arith;
+          known = (omega arith, omega arith);
+          grows = omega arith;
+          inside = omega arith;
+          clear = rw n (clear-tail (new-row p) (f .core .inside));
+          same = written-before pool (t .top) lits (f .pool-fit);
+          lawful = subst (λ x. Lawful (t .vars) (x .where-is) (x .what)) (sym e) l;
+        }
 
     all-rows : Core (t .vars) (t .highest) (t .top) (t .words) (hr ++ []) pool (from-top t stack)
     all-rows = let n = append-nil hr in rw n (f .core)
 
     unstacked : (p : ℕ) → eqb p 2 ≡ false → Listed (spell 2 (map (entry pool) hr ++ entry pool′ (new-row p) ∷ [])) (from-top t stack)
     unstacked p s =
-      let u = spell-unseen 2 (entry pool′ (new-row p)) s (map (entry pool) hr) [] in
-      let n = append-nil (map (entry pool) hr) in
-      let e = clauses-spell 2 pool hr in
-      rw (u, n, ← e) (f .core .listed)
+        let u = spell-unseen 2 (entry pool′ (new-row p)) s (map (entry pool) hr) [] in
+        let n = append-nil (map (entry pool) hr) in
+        let e = clauses-spell 2 pool hr in
+        rw (u, n, ← e) (f .core .listed)
 
     module _ (p : ℕ) (l : Lawful (t .vars) p (plain id lits)) (s : eqb p 2 ≡ false) where
       abbrev rows′ : List Row
@@ -108,19 +110,19 @@ module _ {t : Table} {rows : List Row} {pool : List ℤ} {stack : List ℕ} (f :
 
       append-fit : Fit (appended t id (length lits)) rows′ pool′ stack
       append-fit =
-        let e = take-next rows (t .count) (new-row p) room in
-        refit refl (length-set rows (t .count) (new-row p)) (length-written pool (t .top) lits (f .pool-fit) fits) refl (omega arith) fits (f .stack-fit)
-        (rw e (core-put hr [] all-rows (comes p l) (t .words + length lits) _ (omega arith) (unstacked p s)))
+          let e = take-next rows (t .count) (new-row p) room in
+          refit refl (length-set rows (t .count) (new-row p)) (length-written pool (t .top) lits (f .pool-fit) fits) refl (omega arith) fits (f .stack-fit)
+          (rw e (core-put hr [] all-rows (comes p l) (t .words + length lits) _ (omega arith) (unstacked p s)))
 
       append-moves : {g : Frame} → state-of (t .vars) id (length rows) (length pool) (map (entry pool) hr ++ entry-of p id lits [] ∷ []) (from-top t stack)
           ≡ next (state-of (t .vars) (t .highest) (length rows) (length pool) (map (entry pool) hr ++ []) (from-top t stack)) g →
-        Moved t rows pool stack (appended t id (length lits)) rows′ pool′ stack g
+          Moved t rows pool stack (appended t id (length lits)) rows′ pool′ stack g
       append-moves e =
-        let h = take-next rows (t .count) (new-row p) room in
-        let x = entries-put hr [] all-rows (comes p l) in
-        let y = new-entry p in
-        let n = append-nil (map (entry pool) hr) in
-        moved-by append-fit (length-set rows (t .count) (new-row p)) (length-written pool (t .top) lits (f .pool-fit) fits) (rw (h, x, y) (rw n at e))
+          let h = take-next rows (t .count) (new-row p) room in
+          let x = entries-put hr [] all-rows (comes p l) in
+          let y = new-entry p in
+          let n = append-nil (map (entry pool) hr) in
+          moved-by append-fit (length-set rows (t .count) (new-row p)) (length-written pool (t .top) lits (f .pool-fit) fits) (rw (h, x, y) (rw n at e))
 
     pub add-moves : Moved t rows pool stack (appended t id (length lits)) (set rows (t .count) (new-row 0)) pool′ stack (ADD id lits)
     unfolding Lawful
@@ -144,9 +146,9 @@ module _ {t : Table} {rows : List Row} {pool : List ℤ} {stack : List ℕ} (f :
 
     pub split : hr ≡ us ++ r ∷ bs
     split =
-      let n = length-take-le (t .count) rows (f .rows-fit) in
-      let e = getD-take (t .count) rows at [] h in
-      split-at hr at [] (omega arith) ∙ rw e
+        let n = length-take-le (t .count) rows (f .rows-fit) in
+        let e = getD-take (t .count) rows at [] h in
+        split-at hr at [] (omega arith) ∙ rw e
 
     pub core-at : Core (t .vars) (t .highest) (t .top) (t .words) (us ++ r ∷ bs) pool (from-top t stack)
     core-at = let e = split in rw e at (f .core)
@@ -178,19 +180,19 @@ module _ {t : Table} {rows : List Row} {pool : List ℤ} {stack : List ℕ} (f :
 
       remove-fit : stands 2 r ≡ false → Fit removed (closed rows at (t .count - 1)) pool stack
       remove-fit s =
-        let c = take-closed rows at (t .count) h (f .rows-fit) in
-        let k = f .rows-fit in
-        refit refl less-rows refl refl (omega arith) (f .pool-fit) (f .stack-fit) (rw c (core-cut us r bs core-at (t .words - size r) _ (omega (arith, size-within)) (listed-cut us r bs core-at s)))
+          let c = take-closed rows at (t .count) h (f .rows-fit) in
+          let k = f .rows-fit in
+          refit refl less-rows refl refl (omega arith) (f .pool-fit) (f .stack-fit) (rw c (core-cut us r bs core-at (t .words - size r) _ (omega (arith, size-within)) (listed-cut us r bs core-at s)))
 
       remove-moves : {g : Frame} → stands 2 r ≡ false → state-of (t .vars) (t .highest) (length rows) (length pool) (es ++ fs) (from-top t stack)
           ≡ next (state-of (t .vars) (t .highest) (length rows) (length pool) (es ++ entry-of p (id-of r) (clause-part pool r) [] ∷ fs) (from-top t stack)) g →
-        Moved t rows pool stack removed (closed rows at (t .count - 1)) pool stack g
+          Moved t rows pool stack removed (closed rows at (t .count - 1)) pool stack g
       remove-moves s g =
-        let c = take-closed rows at (t .count) h (f .rows-fit) in
-        let m = map-append (entry pool) us bs in
-        let x = entries-at in
-        let y = plain-row us r bs core-at p q e in
-        moved-by (remove-fit s) less-rows refl (rw (c, m, x, y) g)
+          let c = take-closed rows at (t .count) h (f .rows-fit) in
+          let m = map-append (entry pool) us bs in
+          let x = entries-at in
+          let y = plain-row us r bs core-at p q e in
+          moved-by (remove-fit s) less-rows refl (rw (c, m, x, y) g)
 
     pub forget-moves : place-of r ≡ 1 → Moved t rows pool stack removed (closed rows at (t .count - 1)) pool stack (FORGET (id-of r))
     forget-moves e = remove-moves 1 (omega arith) e (rw e) (forgotten (t .vars) (t .highest) (length rows) (length pool) es fs (from-top t stack) (id-of r) (clause-part pool r) (earlier us r bs core-at) (later us r bs core-at))
@@ -218,13 +220,14 @@ module _ {t : Table} {rows : List Row} {pool : List ℤ} {stack : List ℕ} (f :
         inside = omega (arith, ends);
         clear = clear-less r irredundant-row refl (omega arith) (others-clear us r bs core-at);
         same = refl;
-        lawful = (ok, refl) }
+        lawful = (ok, refl);
+      }
 
       pub settle-core : (words′ : ℕ) → words′ + size r ≡ t .words + n → Core (t .vars) (t .highest) (t .top) words′ (take (t .count) (set rows at irredundant-row)) pool ids
       settle-core words′ e =
-        let h′ = take-swap rows at (t .count) irredundant-row h (f .rows-fit) in
-        let u = spell-unseen 2 (entry pool irredundant-row) refl es fs in
-        rw h′ (core-put us bs others settles words′ ids (omega (arith, size-within)) (rw u l))
+          let h′ = take-swap rows at (t .count) irredundant-row h (f .rows-fit) in
+          let u = spell-unseen 2 (entry pool irredundant-row) refl es fs in
+          rw h′ (core-put us bs others settles words′ ids (omega (arith, size-within)) (rw u l))
 
       pub settle-entries : map (entry pool) (take (t .count) (set rows at irredundant-row)) ≡ es ++ entry-of 0 (id-of r) (part pool (start-of r) n) [] ∷ fs
       settle-entries = ap (map (entry pool)) (take-swap rows at (t .count) irredundant-row h (f .rows-fit)) ∙ entries-put us bs others settles
@@ -251,18 +254,18 @@ module _ {t : Table} {rows : List Row} {pool : List ℤ} {stack : List ℕ} (f :
     -- ---- PROMOTE
 
     pub promote-moves : place-of r ≡ 1 →
-      Moved t rows pool stack (record { vars = t .vars; highest = t .highest; count = t .count; words = t .words - witness-of r; depth = t .depth; top = t .top }) (set rows at settled-row) pool stack (PROMOTE (id-of r))
+        Moved t rows pool stack (record { vars = t .vars; highest = t .highest; count = t .count; words = t .words - witness-of r; depth = t .depth; top = t .top }) (set rows at settled-row) pool stack (PROMOTE (id-of r))
     promote-moves e =
-      let l = listed-cut us r bs core-at (rw e) in
-      let n = length-set rows at settled-row in
-      let x = settle-entries (length-of r) (omega arith) own-clause (from-top t stack) l in
-      let y = entries-at in
-      let z = plain-row us r bs core-at 1 (omega arith) e in
-      moved-by
-      (refit refl n refl refl (f .rows-fit) (f .pool-fit) (f .stack-fit) (settle-core (length-of r) (omega arith) own-clause (from-top t stack) l _ (omega (arith, size-within))))
-      n
-      refl
-      (rw (x, y, z) (promoted (t .vars) (t .highest) (length rows) (length pool) es fs (from-top t stack) (id-of r) (clause-part pool r) (earlier us r bs core-at) (later us r bs core-at)))
+        let l = listed-cut us r bs core-at (rw e) in
+        let n = length-set rows at settled-row in
+        let x = settle-entries (length-of r) (omega arith) own-clause (from-top t stack) l in
+        let y = entries-at in
+        let z = plain-row us r bs core-at 1 (omega arith) e in
+        moved-by
+        (refit refl n refl refl (f .rows-fit) (f .pool-fit) (f .stack-fit) (settle-core (length-of r) (omega arith) own-clause (from-top t stack) l _ (omega (arith, size-within))))
+        n
+        refl
+        (rw (x, y, z) (promoted (t .vars) (t .highest) (length rows) (length pool) es fs (from-top t stack) (id-of r) (clause-part pool r) (earlier us r bs core-at) (later us r bs core-at)))
 
     -- ---- RESTORE: and the id, at `from` in the stack's list, leaves it
 
@@ -275,10 +278,10 @@ module _ {t : Table} {rows : List Row} {pool : List ℤ} {stack : List ℕ} (f :
 
       ids-are : from-top t stack ≡ xs ++ id-of r ∷ ys
       ids-are =
-        let k = length-take-le (t .depth) stack (f .stack-fit) in
-        let q = getD-take (t .depth) stack from 0 g in
-        ap reverse (split-at (take (t .depth) stack) from 0 (omega arith)) ∙ reverse-append (take from (take (t .depth) stack)) _
-        ∙ ap (λ (l : List ℕ). l ++ ys) (reverse-cons _ (drop (suc from) (take (t .depth) stack))) ∙ append-snoc xs _ ys ∙ ap (λ (i : ℕ). xs ++ i ∷ ys) (q ∙ names)
+          let k = length-take-le (t .depth) stack (f .stack-fit) in
+          let q = getD-take (t .depth) stack from 0 g in
+          ap reverse (split-at (take (t .depth) stack) from 0 (omega arith)) ∙ reverse-append (take from (take (t .depth) stack)) _
+          ∙ ap (λ (l : List ℕ). l ++ ys) (reverse-cons _ (drop (suc from) (take (t .depth) stack))) ∙ append-snoc xs _ ys ∙ ap (λ (i : ℕ). xs ++ i ∷ ys) (q ∙ names)
 
       ids-left : reverse (take (t .depth - 1) (closed stack from (t .depth - 1))) ≡ xs ++ ys
       ids-left = ap reverse (take-closed stack from (t .depth) g (f .stack-fit)) ∙ reverse-append (take from (take (t .depth) stack)) _
@@ -290,19 +293,19 @@ module _ {t : Table} {rows : List Row} {pool : List ℤ} {stack : List ℕ} (f :
       left = listed-leave es fs (entry pool r) (eq-eqb (place-of r) 2 e) (earlier us r bs core-at) (later us r bs core-at) xs ys stacked
 
       pub restore-moves :
-        Moved t rows pool stack (record { vars = t .vars; highest = t .highest; count = t .count; words = t .words - witness-of r; depth = t .depth - 1; top = t .top })
+          Moved t rows pool stack (record { vars = t .vars; highest = t .highest; count = t .count; words = t .words - witness-of r; depth = t .depth - 1; top = t .top })
           (set rows at settled-row) pool (closed stack from (t .depth - 1)) (RESTORE (id-of r))
       restore-moves =
-        let d = f .stack-fit in
-        let n = length-set rows at settled-row in
-        let m = length-closed stack from (t .depth - 1) (omega arith) (omega arith) in
-        let o = ids-left in
-        let i = ids-are in
-        let x = settle-entries (length-of r) (omega arith) own-clause (xs ++ ys) left in
-        let y = entries-at in
-        moved-by
-        (refit refl n refl m (f .rows-fit) (f .pool-fit) (omega arith) (rw o (settle-core (length-of r) (omega arith) own-clause (xs ++ ys) left _ (omega (arith, size-within)))))
-        n
-        refl
-        (rw (o, i, x, y, e)
+          let d = f .stack-fit in
+          let n = length-set rows at settled-row in
+          let m = length-closed stack from (t .depth - 1) (omega arith) (omega arith) in
+          let o = ids-left in
+          let i = ids-are in
+          let x = settle-entries (length-of r) (omega arith) own-clause (xs ++ ys) left in
+          let y = entries-at in
+          moved-by
+          (refit refl n refl m (f .rows-fit) (f .pool-fit) (omega arith) (rw o (settle-core (length-of r) (omega arith) own-clause (xs ++ ys) left _ (omega (arith, size-within)))))
+          n
+          refl
+          (rw (o, i, x, y, e)
           (restored (t .vars) (t .highest) (length rows) (length pool) es fs (from-top t stack) (id-of r) (clause-part pool r) (earlier us r bs core-at) (later us r bs core-at) (witness-part pool r) xs ys (rw e at stacked)))

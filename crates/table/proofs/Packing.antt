@@ -87,8 +87,8 @@ entry-packed pool pre rest at r e h =
     let d : drop at (pre ++ q) ≡ q = drop-at pre q at e in
     let c : part (pre ++ q) at (length-of r) ≡ clause-part pool r = ap (take (length-of r)) d ∙ front-part p rest (length-of r) (witness-of r) b in
     let w : part (pre ++ q) (at + length-of r) (witness-of r) ≡ witness-part pool r =
-        ap (take (witness-of r)) (sym (drop-drop (length-of r) at (pre ++ q)) ∙ ap (drop (length-of r)) d)
-        ∙ back-part p rest (length-of r) (witness-of r) b ∙ ap (take (witness-of r)) (drop-drop (length-of r) (start-of r) pool) in
+    ap (take (witness-of r)) (sym (drop-drop (length-of r) at (pre ++ q)) ∙ ap (drop (length-of r)) d)
+    ∙ back-part p rest (length-of r) (witness-of r) b ∙ ap (take (witness-of r)) (drop-drop (length-of r) (start-of r) pool) in
     rw (c, w)
 
 pub length-part : (pool : List ℤ) (r : Row) → Inside (length pool) r → length (part pool (start-of r) (size r)) ≡ size r
@@ -133,10 +133,10 @@ module _ {t : Table} {rows₀ : List Row} {pool : List ℤ} {stack : List ℕ} (
 
     split : held-rows t rows₀ ≡ take i rows₀ ++ r₀ ∷ drop (suc i) (held-rows t rows₀)
     split =
-      let n = length-take-le (t .count) rows₀ (f .rows-fit) in
-      let e = getD-take (t .count) rows₀ i [] h in
-      let d = take-take i (t .count) rows₀ (omega arith) in
-      split-at (held-rows t rows₀) i [] (omega arith) ∙ rw (e, d)
+        let n = length-take-le (t .count) rows₀ (f .rows-fit) in
+        let e = getD-take (t .count) rows₀ i [] h in
+        let d = take-take i (t .count) rows₀ (omega arith) in
+        split-at (held-rows t rows₀) i [] (omega arith) ∙ rw (e, d)
 
     pub inside-here : Inside (length pool) r
     inside-here = let e = row-read in let s = split in rw e (all-here (take i rows₀) r₀ _ (rw s at in-pool))
@@ -146,26 +146,27 @@ module _ {t : Table} {rows₀ : List Row} {pool : List ℤ} {stack : List ℕ} (
 
     pub gathered-next : at ≤ length buffer → Gathered rows₀ pool (i + 1) (at + size r) (set rows i (pointed at r)) (written buffer at (part pool (start-of r) (size r)))
     gathered-next k =
-      let e = row-read in
-      let n = add-one i in
-      let u : take (i + 1) rows₀ ≡ take i rows₀ ++ r₀ ∷ [] = ap (λ (k : ℕ). take k rows₀) n ∙ take-suc rows₀ i [] small in
-      let s : List ℤ = part pool (start-of r) (size r) in
-      let l = length-part pool r inside-here in
-      let b = length-take-le at buffer k in
-      let a = g .at-is in
-      record {
-        rows-are =
-          ap (λ (l : List Row). set l i (pointed at r)) rows-here ∙ set-at (packed 0 (take i rows₀)) r₀ (drop (suc i) rows₀) (pointed at r) i long
-          ∙ sym (append-snoc (packed 0 (take i rows₀)) (pointed at r) (drop (suc i) rows₀))
-          ∙ ap (λ (l : List Row). l ++ drop (suc i) rows₀) (ap (λ (x : Row). packed 0 (take i rows₀) ++ pointed at x ∷ []) e ∙ ap (λ (x : ℕ). packed 0 (take i rows₀) ++ pointed x r₀ ∷ []) (omega arith) ∙ sym (packed-next 0 (take i rows₀) r₀))
-          ∙ rw (u, n);
-        at-is = rw (u, e) (omega (arith, total-join size (take i rows₀) (r₀ ∷ [])));
-        written = taken s (omega arith) b ∙ rw (g .written, u, e) (sym (joined-next pool (take i rows₀) r₀)) }
+        let e = row-read in
+        let n = add-one i in
+        let u : take (i + 1) rows₀ ≡ take i rows₀ ++ r₀ ∷ [] = ap (λ (k : ℕ). take k rows₀) n ∙ take-suc rows₀ i [] small in
+        let s : List ℤ = part pool (start-of r) (size r) in
+        let l = length-part pool r inside-here in
+        let b = length-take-le at buffer k in
+        let a = g .at-is in
+        record {
+          rows-are =
+              ap (λ (l : List Row). set l i (pointed at r)) rows-here ∙ set-at (packed 0 (take i rows₀)) r₀ (drop (suc i) rows₀) (pointed at r) i long
+              ∙ sym (append-snoc (packed 0 (take i rows₀)) (pointed at r) (drop (suc i) rows₀))
+              ∙ ap (λ (l : List Row). l ++ drop (suc i) rows₀) (ap (λ (x : Row). packed 0 (take i rows₀) ++ pointed at x ∷ []) e ∙ ap (λ (x : ℕ). packed 0 (take i rows₀) ++ pointed x r₀ ∷ []) (omega arith) ∙ sym (packed-next 0 (take i rows₀) r₀))
+              ∙ rw (u, n);
+          at-is = rw (u, e) (omega (arith, total-join size (take i rows₀) (r₀ ∷ [])));
+          written = taken s (omega arith) b ∙ rw (g .written, u, e) (sym (joined-next pool (take i rows₀) r₀));
+        }
       where
         taken : (s : List ℤ) → length s ≡ size r → length (take at buffer) ≡ at → take (at + size r) (written buffer at s) ≡ take at buffer ++ s
         taken s l b =
-          ap (take (at + size r)) (sym (append-assoc (take at buffer) s (drop (length s) (drop at buffer))))
-          ∙ take-at (take at buffer ++ s) (drop (length s) (drop at buffer)) (at + size r) (omega (arith, length-append (take at buffer) s))
+            ap (take (at + size r)) (sym (append-assoc (take at buffer) s (drop (length s) (drop at buffer))))
+            ∙ take-at (take at buffer ++ s) (drop (length s) (drop at buffer)) (at + size r) (omega (arith, length-append (take at buffer) s))
 
   -- ---- the tables after it
 
@@ -178,52 +179,58 @@ module _ {t : Table} {rows₀ : List Row} {pool : List ℤ} {stack : List ℕ} (
 
     rows-after : held-rows t rows ≡ packed 0 (held-rows t rows₀)
     rows-after =
-      ap (take (t .count)) (g .rows-are)
-      ∙ take-at (packed 0 (held-rows t rows₀)) (drop (t .count) rows₀) (t .count) (length-packed 0 (held-rows t rows₀) ∙ length-take-le (t .count) rows₀ (f .rows-fit))
+        ap (take (t .count)) (g .rows-are)
+        ∙ take-at (packed 0 (held-rows t rows₀)) (drop (t .count) rows₀) (t .count) (length-packed 0 (held-rows t rows₀) ∙ length-take-le (t .count) rows₀ (f .rows-fit))
 
     entries-after : map (entry pool′) (held-rows t rows) ≡ map (entry pool) (held-rows t rows₀)
     entries-after =
-      let e = rows-after in
-      let w = g .written in
-      rw (e, w) (entries-packed pool [] _ 0 refl in-pool)
+        let e = rows-after in
+        let w = g .written in
+        rw (e, w) (entries-packed pool [] _ 0 refl in-pool)
 
     same-rows : length rows ≡ length rows₀
     same-rows =
-      let k = f .rows-fit in
-      omega (arith, ap length (g .rows-are), length-append (packed 0 (held-rows t rows₀)) (drop (t .count) rows₀), length-packed 0 (held-rows t rows₀), length-take-le (t .count) rows₀ (f .rows-fit), length-drop (t .count) rows₀)
+        let k = f .rows-fit in
+        omega (arith, ap length (g .rows-are), length-append (packed 0 (held-rows t rows₀)) (drop (t .count) rows₀), length-packed 0 (held-rows t rows₀), length-take-le (t .count) rows₀ (f .rows-fit), length-drop (t .count) rows₀)
 
     same-pool : length pool′ ≡ length pool
     same-pool = let l = length-take-le at buffer full in length-over pool (take at buffer) (omega arith)
 
     compact-fit : Fit compacted rows pool′ stack
     compact-fit =
-      let e = rows-after in
-      let s = entries-after in
-      let c = f .core in
-      refit f refl same-rows same-pool refl (f .rows-fit) fits (f .stack-fit) (record {
-        rising = rw e (rising-packed 0 (c .rising));
-        known = rw e (ids-packed (λ i. (0 < i) × (i ≤ t .highest)) 0 (c .known));
-        inside = rw e (inside-packed 0 at (held-rows t rows₀) (omega (arith, g .at-is)));
-        apart = rw e (apart-packed 0 (held-rows t rows₀));
-        lawful = all-unmap {P = LawfulEntry (t .vars)} (entry pool′) (held-rows t rows) (rw s (all-map {P = LawfulEntry (t .vars)} (entry pool) (held-rows t rows₀) (c .lawful)));
-        counted = rw e (c .counted ∙ sym (total-packed 0 (held-rows t rows₀)));
-        listed = let q = clauses-spell 2 pool′ (held-rows t rows) ∙ ap (spell 2) s ∙ sym (clauses-spell 2 pool (held-rows t rows₀)) in rw q (c .listed) })
+        let e = rows-after in
+        let s = entries-after in
+        let c = f .core in
+        refit f refl same-rows same-pool refl (f .rows-fit) fits (f .stack-fit) (record {
+          rising = rw e (rising-packed 0 (c .rising));
+          known = rw e (ids-packed (λ i. (0 < i) × (i ≤ t .highest)) 0 (c .known));
+          inside = rw e (inside-packed 0 at (held-rows t rows₀) (omega (arith, g .at-is)));
+          apart = rw e (apart-packed 0 (held-rows t rows₀));
+          lawful = all-unmap {P = LawfulEntry (t .vars)} (entry pool′) (held-rows t rows) (rw s (all-map {P = LawfulEntry (t .vars)} (entry pool) (held-rows t rows₀) (c .lawful)));
+          counted = rw e (c .counted ∙ sym (total-packed 0 (held-rows t rows₀)));
+          listed = let q = clauses-spell 2 pool′ (held-rows t rows) ∙ ap (spell 2) s ∙ sym (clauses-spell 2 pool (held-rows t rows₀)) in rw q (c .listed);
+        })
 
     pub compact-roomy : (n : ℕ) → t .words + n ≤ length pool → Roomy t rows₀ pool stack compacted rows pool′ n
     compact-roomy n h =
-      let p = same-rows in
-      let q = same-pool in
-      let s = entries-after in
-      record {
-        fit = compact-fit;
-        same = spelled-is compacted rows pool′ stack ∙ rw (p, q, s) (sym (spelled-is t rows₀ pool stack));
-        entries = s;
-        count = refl;
-        words = refl;
-        depth = refl;
-        room = omega (arith, g .at-is, f .core .counted) }
+        let p = same-rows in
+        let q = same-pool in
+        let s = entries-after in
+        record {
+          fit = compact-fit;
+          same = spelled-is compacted rows pool′ stack ∙ rw (p, q, s) (sym (spelled-is t rows₀ pool stack));
+          entries = s;
+          count = refl;
+          words = refl;
+          depth = refl;
+          room = omega (arith, g .at-is, f .core .counted);
+        }
 
 -- ---- first room, then the frame
+
+pub roomy-is : {t u : Table} {rows rows₀ : List Row} {pool : List ℤ} {stack : List ℕ} {t′ : Table} {rows′ : List Row} {pool′ : List ℤ} {n m : ℕ} →
+    t ≡ u → rows ≡ rows₀ → n ≡ m → Roomy t rows pool stack t′ rows′ pool′ n → Roomy u rows₀ pool stack t′ rows′ pool′ m
+roomy-is a b c r = rw (a, b, c) at r
 
 module _ {t : Table} {rows : List Row} {pool : List ℤ} {stack : List ℕ} {t′ : Table} {rows′ : List Row} {pool′ : List ℤ} {n : ℕ} (m : Roomy t rows pool stack t′ rows′ pool′ n) where
   pub roomy-lengths : (length rows′ ≡ length rows) × (length pool′ ≡ length pool)

@@ -20,8 +20,8 @@ has-place x [] i = refl
 has-place x (h ∷ hs) i =
     let r = has-place x hs i in
     by-cases (ltb (x .id) (h .id)) (λ e. rw e) (λ e. by-cases (eqb (x .id) i)
-        (λ q. by-cases (eqb (h .id) i) (λ p. rw (e, q, p)) (λ p. rw (e, q, p, r, q)))
-        (λ q. rw (e, q, r, q)))
+    (λ q. by-cases (eqb (h .id) i) (λ p. rw (e, q, p)) (λ p. rw (e, q, p, r, q)))
+    (λ q. rw (e, q, r, q)))
 
 -- ---- a clause goes from where one came
 
@@ -31,8 +31,8 @@ without-placed x [] n = let self = eq-eqb (x .id) (x .id) refl in rw self
 without-placed x (h ∷ hs) n =
     let self = eq-eqb (x .id) (x .id) refl in
     by-cases (ltb (x .id) (h .id)) (λ e. rw (e, self)) (λ e. by-cases (eqb (h .id) (x .id))
-        (λ q. absurd (let z : 1 + tally (x .id) hs ≡ 0 = rw q at n in omega arith))
-        (λ q. let r = without-placed x hs (omega arith) in rw (e, q, r)))
+    (λ q. absurd (let z : 1 + tally (x .id) hs ≡ 0 = rw q at n in omega arith))
+    (λ q. let r = without-placed x hs (omega arith) in rw (e, q, r)))
 
 rising-each : (h : Held) (hs : List Held) → rising (h ∷ hs) ≡ true → (all (later h) hs ≡ true) × (rising hs ≡ true)
 unfolding rising

@@ -87,9 +87,9 @@ clear-less r r′ e h a = all-more less a
   where
     less : (x : Row) → Clear r x → Clear r′ x
     less x c = ⊎-elim
-      (λ a. inl (⊎-elim (λ (z : size r ≡ 0). inl (omega arith)) (λ z. inr z) a))
-      (λ a. inr (⊎-elim (λ (z : start-of r + size r ≤ start-of x). inl (omega arith)) (λ (z : start-of x + size x ≤ start-of r). inr (omega arith)) a))
-      c
+        (λ a. inl (⊎-elim (λ (z : size r ≡ 0). inl (omega arith)) (λ z. inr z) a))
+        (λ a. inr (⊎-elim (λ (z : start-of r + size r ≤ start-of x). inl (omega arith)) (λ (z : start-of x + size x ≤ start-of r). inr (omega arith)) a))
+        c
 
 -- ---- a row goes
 
@@ -134,15 +134,16 @@ module _ {v hi top words : ℕ} (us : List Row) (r : Row) (bs : List Row) {pool 
 
   pub core-cut : (words′ : ℕ) (ids′ : List ℕ) → words ≡ words′ + size r → Listed (spell 2 (es ++ fs)) ids′ → Core v hi top words′ (us ++ bs) pool ids′
   core-cut words′ ids′ e l =
-    let q = clauses-spell 2 pool (us ++ bs) ∙ ap (spell 2) (map-append (entry pool) us bs) in
-    record {
-      rising = pairs-cut us r bs (k .rising);
-      known = all-cut us r bs (k .known);
-      inside = all-cut us r bs (k .inside);
-      apart = pairs-cut us r bs (k .apart);
-      lawful = all-cut us r bs (k .lawful);
-      counted = omega (arith, k .counted, total-cut size us r bs);
-      listed = rw q l }
+      let q = clauses-spell 2 pool (us ++ bs) ∙ ap (spell 2) (map-append (entry pool) us bs) in
+      record {
+        rising = pairs-cut us r bs (k .rising);
+        known = all-cut us r bs (k .known);
+        inside = all-cut us r bs (k .inside);
+        apart = pairs-cut us r bs (k .apart);
+        lawful = all-cut us r bs (k .lawful);
+        counted = omega (arith, k .counted, total-cut size us r bs);
+        listed = rw q l;
+      }
 
 -- ---- a row comes; the pool's words below top stay
 
@@ -161,23 +162,24 @@ module _ {v hi top words : ℕ} (us bs : List Row) {pool : List ℤ} {ids : List
     {r : Row} {hi′ top′ : ℕ} {pool′ : List ℤ} (c : Comes v hi top us bs pool r hi′ top′ pool′) where
   pub entries-put : map (entry pool′) (us ++ r ∷ bs) ≡ map (entry pool) us ++ entry pool′ r ∷ map (entry pool) bs
   entries-put =
-    let a = entries-same pool pool′ top (c .same) (all-left us bs (k .inside)) in
-    let b = entries-same pool pool′ top (c .same) (all-right us bs (k .inside)) in
-    map-append (entry pool′) us (r ∷ bs) ∙ rw (a, b)
+      let a = entries-same pool pool′ top (c .same) (all-left us bs (k .inside)) in
+      let b = entries-same pool pool′ top (c .same) (all-right us bs (k .inside)) in
+      map-append (entry pool′) us (r ∷ bs) ∙ rw (a, b)
 
   lawful-same : All (λ x. Lawful v (place-of x) (held pool′ x)) (us ++ bs)
   lawful-same = let e = entries-same pool pool′ top (c .same) (k .inside) in all-unmap {P = LawfulEntry v} (entry pool′) (us ++ bs) (rw e (all-map {P = LawfulEntry v} (entry pool) (us ++ bs) (k .lawful)))
 
   pub core-put : (words′ : ℕ) (ids′ : List ℕ) → words′ ≡ words + size r → Listed (spell 2 (map (entry pool) us ++ entry pool′ r ∷ map (entry pool) bs)) ids′ → Core v hi′ top′ words′ (us ++ r ∷ bs) pool′ ids′
   core-put words′ ids′ e l =
-    let q = clauses-spell 2 pool′ (us ++ r ∷ bs) ∙ ap (spell 2) entries-put in
-    let g = c .grows in
-    let h = c .higher in
-    record {
-      rising = pairs-put us r bs (k .rising) (c .behind) (c .ahead-of);
-      known = all-put us r bs (all-more (λ x h. (h .0, omega arith)) (k .known)) (c .known);
-      inside = all-put us r bs (all-more (λ x h. omega arith) (k .inside)) (c .inside);
-      apart = pairs-put us r bs (k .apart) (all-more (λ x h. clear-flip r x h) (all-left us bs (c .clear))) (all-right us bs (c .clear));
-      lawful = all-put us r bs lawful-same (c .lawful);
-      counted = omega (arith, k .counted, total-cut size us r bs);
-      listed = rw q l }
+      let q = clauses-spell 2 pool′ (us ++ r ∷ bs) ∙ ap (spell 2) entries-put in
+      let g = c .grows in
+      let h = c .higher in
+      record {
+        rising = pairs-put us r bs (k .rising) (c .behind) (c .ahead-of);
+        known = all-put us r bs (all-more (λ x h. (h .0, omega arith)) (k .known)) (c .known);
+        inside = all-put us r bs (all-more (λ x h. omega arith) (k .inside)) (c .inside);
+        apart = pairs-put us r bs (k .apart) (all-more (λ x h. clear-flip r x h) (all-left us bs (c .clear))) (all-right us bs (c .clear));
+        lawful = all-put us r bs lawful-same (c .lawful);
+        counted = omega (arith, k .counted, total-cut size us r bs);
+        listed = rw q l;
+      }

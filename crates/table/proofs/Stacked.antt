@@ -27,8 +27,8 @@ module _ (F : ℕ → Held) where
   unfolding any fetch
   fetch-named [] i none h = absurd (false≢true h)
   fetch-named (j ∷ ids) i (both p a) h = by-cases (eqb (F j .id) i)
-    (λ e. rw e (ap F (sym p ∙ eqb-true (F j .id) i e)))
-    (λ e. rw e (fetch-named ids i a (rw e at h)))
+      (λ e. rw e (ap F (sym p ∙ eqb-true (F j .id) i e)))
+      (λ e. rw e (fetch-named ids i a (rw e at h)))
 
   without-named : (xs : List ℕ) (i : ℕ) (ys : List ℕ) → Named (xs ++ i ∷ ys) → All (λ j. j ≡ i → ⊥) xs → without (map F (xs ++ i ∷ ys)) i ≡ map F (xs ++ ys)
   unfolding without
@@ -44,15 +44,15 @@ module _ (F : ℕ → Held) where
   unfolding tally
   single-named none alone i = omega arith
   single-named (both {x} {xs} p a) (ahead d o) i = by-cases (eqb (F x .id) i)
-    (λ e. let q : x ≡ i = sym p ∙ eqb-true (F x .id) i e in rw e (omega (arith, tally-absent xs i a (rw q at d))))
-    (λ e. rw e (omega (arith, single-named a o i)))
+      (λ e. let q : x ≡ i = sym p ∙ eqb-true (F x .id) i e in rw e (omega (arith, tally-absent xs i a (rw q at d))))
+      (λ e. rw e (omega (arith, single-named a o i)))
 
   named-in : (ids : List ℕ) (i : ℕ) → Named ids → has (map F ids) i ≡ true → List·Memᴰ i ids
   unfolding any
   named-in [] i none h = absurd (false≢true h)
   named-in (j ∷ ids) i (both p a) h = by-cases (eqb (F j .id) i)
-    (λ e. List·Memᴰ·head (sym (eqb-true (F j .id) i e) ∙ p))
-    (λ e. List·Memᴰ·tail (named-in ids i a (rw e at h)))
+      (λ e. List·Memᴰ·head (sym (eqb-true (F j .id) i e) ∙ p))
+      (λ e. List·Memᴰ·tail (named-in ids i a (rw e at h)))
 
 module _ {stacked : List Held} {ids : List ℕ} (l : Listed stacked ids) where
   listed-named : All (λ j. fetch stacked j .id ≡ j) ids
@@ -95,7 +95,8 @@ module _ (es fs : List Entry) (e : Entry) (q : eqb (e .where-is) 2 ≡ true) (b 
         record {
           each = both (has-here 2 e q es fs) (all-both (λ j n m. has-other 2 e q es fs j (ne-eqb i j (λ z. n (sym z))) ∙ m) fresh (l .each));
           once = ahead fresh (l .once);
-          whole = ap settled records-push ∙ rw (o, p) }
+          whole = ap settled records-push ∙ rw (o, p);
+        }
 
   -- its id leaves from the middle
   module _ (xs ys : List ℕ) (l : Listed (spell 2 (es ++ e ∷ fs)) (xs ++ i ∷ ys)) where
@@ -116,5 +117,6 @@ module _ (es fs : List Entry) (e : Entry) (q : eqb (e .where-is) 2 ≡ true) (b 
       each = all-both (λ j n m. sym (has-other 2 e q es fs j (ne-eqb i j (λ z. n (sym z)))) ∙ m) rest (all-cut xs i ys (l .each));
       once = pairs-cut xs i ys (l .once);
       whole =
-        ap settled records-leave ∙ settled-without (map F (xs ++ i ∷ ys)) i (single-named F (listed-named l) (l .once))
-        ∙ ap (λ (hs : List Held). without hs i) (l .whole) ∙ sym (spell-goes 2 e q es fs b) }
+          ap settled records-leave ∙ settled-without (map F (xs ++ i ∷ ys)) i (single-named F (listed-named l) (l .once))
+          ∙ ap (λ (hs : List Held). without hs i) (l .whole) ∙ sym (spell-goes 2 e q es fs b);
+    }

@@ -67,9 +67,9 @@ module _ {t : Table} {rows : List Row} {pool : List ℤ} {stack : List ℕ} (f :
 
     record-entry : entry pool₂ record-row ≡ entry-of 2 (id-of r) lits wit
     record-entry =
-      let c = part-same pool₁ pool₂ (t .top + length lits) (t .top) (length lits) keeps (omega arith) ∙ written-part pool (t .top) lits (f .pool-fit) in
-      let d = written-part pool₁ (t .top + length lits) wit (omega (arith, len₁)) in
-      rw (c, d)
+        let c = part-same pool₁ pool₂ (t .top + length lits) (t .top) (length lits) keeps (omega arith) ∙ written-part pool (t .top) lits (f .pool-fit) in
+        let d = written-part pool₁ (t .top + length lits) wit (omega (arith, len₁)) in
+        rw (c, d)
 
     others : Core (t .vars) (t .highest) (t .top) (t .words) (us ++ bs) pool (from-top t stack)
     others = core-cut us r bs k (t .words) (from-top t stack) (omega arith) (listed-cut us r bs k (rw p))
@@ -77,17 +77,18 @@ module _ {t : Table} {rows : List Row} {pool : List ℤ} {stack : List ℕ} (f :
     comes : Comes (t .vars) (t .highest) (t .top) us bs pool record-row (t .highest) (t .top + (length lits + length wit)) pool₂
     unfolding Lawful
     comes =
-      let l : Lawful (t .vars) 2 (entry-of 2 (id-of r) lits wit .what) = (clause, witness) in
-      record {
-        behind = all-unmap (entry pool) us (earlier us r bs k);
-        ahead-of = all-unmap (entry pool) bs (later us r bs k);
-        higher = omega arith;
-        known = all-here us r bs (k .known);
-        grows = omega arith;
-        inside = omega arith;
-        clear = clear-tail record-row (all-cut us r bs (k .inside));
-        same = part-same pool₁ pool₂ (t .top + length lits) 0 (t .top) keeps (omega arith) ∙ written-before pool (t .top) lits (f .pool-fit);
-        lawful = subst (λ x. Lawful (t .vars) (x .where-is) (x .what)) (sym record-entry) l }
+        let l : Lawful (t .vars) 2 (entry-of 2 (id-of r) lits wit .what) = (clause, witness) in
+        record {
+          behind = all-unmap (entry pool) us (earlier us r bs k);
+          ahead-of = all-unmap (entry pool) bs (later us r bs k);
+          higher = omega arith;
+          known = all-here us r bs (k .known);
+          grows = omega arith;
+          inside = omega arith;
+          clear = clear-tail record-row (all-cut us r bs (k .inside));
+          same = part-same pool₁ pool₂ (t .top + length lits) 0 (t .top) keeps (omega arith) ∙ written-before pool (t .top) lits (f .pool-fit);
+          lawful = subst (λ x. Lawful (t .vars) (x .where-is) (x .what)) (sym record-entry) l;
+        }
 
     on-top : reverse (take (t .depth + 1) (set stack (t .depth) (id-of r))) ≡ id-of r ∷ from-top t stack
     on-top = ap reverse (take-next stack (t .depth) (id-of r) deep) ∙ reverse-append (take (t .depth) stack) (id-of r ∷ [])
@@ -97,15 +98,15 @@ module _ {t : Table} {rows : List Row} {pool : List ℤ} {stack : List ℕ} (f :
 
     record-fit : Fit (grown t (length lits + length wit)) (set rows at record-row) pool₂ (set stack (t .depth) (id-of r))
     record-fit =
-      let e = take-swap rows at (t .count) record-row h (f .rows-fit) in
-      let o = on-top in
-      refit f refl (length-set rows at record-row) len₂ (length-set stack (t .depth) (id-of r)) (f .rows-fit) fits (omega arith)
-      (rw (e, o) (core-put us bs others comes (t .words + (length lits + length wit)) (id-of r ∷ from-top t stack) refl listed))
+        let e = take-swap rows at (t .count) record-row h (f .rows-fit) in
+        let o = on-top in
+        refit f refl (length-set rows at record-row) len₂ (length-set stack (t .depth) (id-of r)) (f .rows-fit) fits (omega arith)
+        (rw (e, o) (core-put us bs others comes (t .words + (length lits + length wit)) (id-of r ∷ from-top t stack) refl listed))
 
     record-entries : map (entry pool₂) (take (t .count) (set rows at record-row)) ≡ es ++ entry-of 2 (id-of r) lits wit ∷ fs
     record-entries =
-      let e = record-entry in
-      ap (map (entry pool₂)) (take-swap rows at (t .count) record-row h (f .rows-fit)) ∙ entries-put us bs others comes ∙ rw e
+        let e = record-entry in
+        ap (map (entry pool₂)) (take-swap rows at (t .count) record-row h (f .rows-fit)) ∙ entries-put us bs others comes ∙ rw e
 
 -- ---- the first half: the row is blanked
 
@@ -140,8 +141,8 @@ module _ {t : Table} {rows : List Row} {pool : List ℤ} {stack : List ℕ} (f :
 
   pub blank-fit : Fit (lessened t (size r₁)) (set rows at (blank-row r₁)) pool stack
   blank-fit =
-    refit f refl (length-set rows at (blank-row r₁)) refl refl (f .rows-fit) (f .pool-fit) (f .stack-fit)
-    (settle-core f at h 0 (omega arith) empty-clause (from-top t stack) unlisted (t .words - size r₁) (omega (arith, size-within f at h)))
+      refit f refl (length-set rows at (blank-row r₁)) refl refl (f .rows-fit) (f .pool-fit) (f .stack-fit)
+      (settle-core f at h 0 (omega arith) empty-clause (from-top t stack) unlisted (t .words - size r₁) (omega (arith, size-within f at h)))
 
   blank-entries : map (entry pool) (take (t .count) (set rows at (blank-row r₁))) ≡ es₁ ++ entry-of 0 (id-of r₁) [] [] ∷ fs₁
   blank-entries = settle-entries f at h 0 (omega arith) empty-clause (from-top t stack) unlisted
@@ -164,9 +165,9 @@ module _ {t : Table} {rows : List Row} {pool : List ℤ} {stack : List ℕ} (f :
 
     long : {u : Table} {rs : List Row} {q : List ℤ} → Fit u rs q stack → at < u .count → length (map (entry q) (take at (held-rows u rs))) ≡ at
     long {u} {rs} {q} g b =
-      let a = g .rows-fit in
-      let c = length-take-le (u .count) rs a in
-      length-map (take at (held-rows u rs)) (entry q) ∙ length-take-le at (held-rows u rs) (omega arith)
+        let a = g .rows-fit in
+        let c = length-take-le (u .count) rs a in
+        length-map (take at (held-rows u rs)) (entry q) ∙ length-take-le at (held-rows u rs) (omega arith)
 
     -- the other entries are as they were, and the blanked one is blank
     same-split : (map (entry pool₂) (take at (held-rows t₂ rows₂)) ≡ es₁) × (entry pool₂ r₂ ≡ entry-of 0 (id-of r₁) [] []) × (map (entry pool₂) (drop (suc at) (held-rows t₂ rows₂)) ≡ fs₁)
@@ -177,9 +178,9 @@ module _ {t : Table} {rows : List Row} {pool : List ℤ} {stack : List ℕ} (f :
 
     holds-nothing : size r₂ ≡ 0
     holds-nothing =
-      let i = ends (m .fit) at h₂ in
-      let q = m .fit .pool-fit in
-      omega (arith, clause-length pool₂ r₂ (omega arith), witness-length pool₂ r₂ (omega arith), ap (λ (e : Entry). length (e .what .lits)) (same-split .1), ap (λ (e : Entry). length (e .what .witness)) (same-split .1))
+        let i = ends (m .fit) at h₂ in
+        let q = m .fit .pool-fit in
+        omega (arith, clause-length pool₂ r₂ (omega arith), witness-length pool₂ r₂ (omega arith), ap (λ (e : Entry). length (e .what .lits)) (same-split .1), ap (λ (e : Entry). length (e .what .witness)) (same-split .1))
 
     clause : is-clause (t .vars) lits₁ ≡ true
     clause = own-clause f at h
@@ -198,26 +199,26 @@ module _ {t : Table} {rows : List Row} {pool : List ℤ} {stack : List ℕ} (f :
 
     -- what the code asks
     pub record-numbers : t .words + length wit ≤ length pool →
-      (at < length rows₂) × (t₂ .top + (length lits₁ + length wit) ≤ length pool₂) × (t₂ .words + (length lits₁ + length wit) ≤ length pool₂) × (length pool₂ ≤ 8192) × (t₂ .depth < length stack) × (t₂ .depth < 1024)
+        (at < length rows₂) × (t₂ .top + (length lits₁ + length wit) ≤ length pool₂) × (t₂ .words + (length lits₁ + length wit) ≤ length pool₂) × (length pool₂ ≤ 8192) × (t₂ .depth < length stack) × (t₂ .depth < 1024)
     record-numbers free =
-      let l = roomy-lengths m in
-      (omega (arith, h₂, m .fit .rows-fit), fits, omega (arith, m .words, clause-length pool r₁ (row-inside f at h), size-within f at h), m .fit .pool-lent, deep₂, omega (arith, m .depth, stack-low, f .rows-fit, f .rows-lent))
+        let l = roomy-lengths m in
+        (omega (arith, h₂, m .fit .rows-fit), fits, omega (arith, m .words, clause-length pool r₁ (row-inside f at h), size-within f at h), m .fit .pool-lent, deep₂, omega (arith, m .depth, stack-low, f .rows-fit, f .rows-lent))
 
     pub weaken-moves : (groups : List ℤ) → Moved t rows pool stack (grown t₂ (length lits₁ + length wit)) (set rows₂ at (id-of r₂ ∷ 2 ∷ t₂ .top ∷ length lits₁ ∷ length wit ∷ []))
-      (written (written pool₂ (t₂ .top) lits₁) (t₂ .top + length lits₁) wit) (set stack (t₂ .depth) (id-of r₂)) (WEAKEN (id-of r₁) wit groups)
+        (written (written pool₂ (t₂ .top) lits₁) (t₂ .top + length lits₁) wit) (set stack (t₂ .depth) (id-of r₂)) (WEAKEN (id-of r₁) wit groups)
     weaken-moves groups =
-      let v = same-vars in
-      let c = rw (← v) at clause in
-      let w = rw (← v) at witness in
-      let x = record-entries (m .fit) at h₂ lits₁ wit place-zero holds-nothing fits deep₂ c w in
-      let y = entries-were in
-      let a = same-split .0 in
-      let b = same-split .2 in
-      let i = same-id in
-      let hi = ap (λ (s : State). s .highest) (m .same) in
-      let o = on-top (m .fit) at h₂ lits₁ wit place-zero holds-nothing fits deep₂ c w in
-      let d = ap (λ (n : ℕ). reverse (take n stack)) (m .depth) in
-      moved-by f (record-fit (m .fit) at h₂ lits₁ wit place-zero holds-nothing fits deep₂ c w)
-      (length-set rows₂ at _ ∙ ap (λ (s : State). s .entries) (m .same) ∙ length-set rows at (blank-row r₁))
-      (len₂ (m .fit) at h₂ lits₁ wit place-zero holds-nothing fits deep₂ c w ∙ ap (λ (s : State). s .words) (m .same))
-      (rw (x, y, o, a, b, i, d, v, hi) (weakened (t .vars) (t .highest) (length rows) (length pool) es₁ fs₁ (from-top t stack) (id-of r₁) lits₁ (earlier us₁ r₁ bs₁ k₁) (later us₁ r₁ bs₁ k₁) wit groups unlisted))
+        let v = same-vars in
+        let c = rw (← v) at clause in
+        let w = rw (← v) at witness in
+        let x = record-entries (m .fit) at h₂ lits₁ wit place-zero holds-nothing fits deep₂ c w in
+        let y = entries-were in
+        let a = same-split .0 in
+        let b = same-split .2 in
+        let i = same-id in
+        let hi = ap (λ (s : State). s .highest) (m .same) in
+        let o = on-top (m .fit) at h₂ lits₁ wit place-zero holds-nothing fits deep₂ c w in
+        let d = ap (λ (n : ℕ). reverse (take n stack)) (m .depth) in
+        moved-by f (record-fit (m .fit) at h₂ lits₁ wit place-zero holds-nothing fits deep₂ c w)
+        (length-set rows₂ at _ ∙ ap (λ (s : State). s .entries) (m .same) ∙ length-set rows at (blank-row r₁))
+        (len₂ (m .fit) at h₂ lits₁ wit place-zero holds-nothing fits deep₂ c w ∙ ap (λ (s : State). s .words) (m .same))
+        (rw (x, y, o, a, b, i, d, v, hi) (weakened (t .vars) (t .highest) (length rows) (length pool) es₁ fs₁ (from-top t stack) (id-of r₁) lits₁ (earlier us₁ r₁ bs₁ k₁) (later us₁ r₁ bs₁ k₁) wit groups unlisted))

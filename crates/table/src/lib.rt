@@ -159,7 +159,15 @@ fn blank(rows: &mut [[u32; 5]], t: Table, at: usize) -> Table
 }
 
 // A record's literals and, behind them, its witness to the tail; its row; its id on the stack.
-fn write_record(rows: &mut [[u32; 5]], pool: &mut [i32], stack: &mut [u32], t: Table, at: usize, lits: &[i32], witness: &[i32]) -> Table
+fn write_record(
+    rows: &mut [[u32; 5]],
+    pool: &mut [i32],
+    stack: &mut [u32],
+    t: Table,
+    at: usize,
+    lits: &[i32],
+    witness: &[i32],
+) -> Table
     requires { ⌜ (at < length (now rows)) × (t .top + (length (now lits) + length (now witness)) ≤ length (now pool))
         × (t .words + (length (now lits) + length (now witness)) ≤ length (now pool)) × (length (now pool) ≤ 8192) × (t .depth < length (now stack)) × (t .depth < 1024) ⌝ }
     ensures { λ r. ⌜ (now (rows .exit) ≡ set (now (rows .entry)) at (id-of (row-at (now (rows .entry)) at) ∷ 2 ∷ t .top ∷ length (now (lits .entry)) ∷ length (now (witness .entry)) ∷ []))
@@ -188,7 +196,14 @@ fn write_record(rows: &mut [[u32; 5]], pool: &mut [i32], stack: &mut [u32], t: T
 // ---- writers: each is called when its frame is accepted
 
 // ADD to place 0, LEARN to place 1: the literals go to the pool's tail, a row behind the last.
-pub fn append(rows: &mut [[u32; 5]], pool: &mut [i32], t: Table, place: u32, id: u32, lits: &[i32]) -> Table
+pub fn append(
+    rows: &mut [[u32; 5]],
+    pool: &mut [i32],
+    t: Table,
+    place: u32,
+    id: u32,
+    lits: &[i32],
+) -> Table
     requires { ⌜ Fits t (now rows) (now pool) × (t .count < length (now rows)) × (t .words + length (now lits) ≤ length (now pool)) ⌝ }
     ensures added { λ r. ⌜ (place ≡ 0 → (stack : List ℕ) → Fit t (now (rows .entry)) (now (pool .entry)) stack → t .highest < id → is-clause (t .vars) (now (lits .entry)) ≡ true
         → Moved t (now (rows .entry)) (now (pool .entry)) stack r (now (rows .exit)) (now (pool .exit)) stack (ADD id (now (lits .entry)))) ⌝ }
@@ -213,7 +228,14 @@ pub fn append(rows: &mut [[u32; 5]], pool: &mut [i32], t: Table, place: u32, id:
 
 // WEAKEN: an irredundant clause goes to the top of the stack with its witness. Its own words are free again before room is made,
 // so that 13, which counts the witness alone, is enough also where the pool is full.
-pub fn weaken(rows: &mut [[u32; 5]], pool: &mut [i32], stack: &mut [u32], t: Table, at: usize, witness: &[i32]) -> Table
+pub fn weaken(
+    rows: &mut [[u32; 5]],
+    pool: &mut [i32],
+    stack: &mut [u32],
+    t: Table,
+    at: usize,
+    witness: &[i32],
+) -> Table
     requires { ⌜ Fit t (now rows) (now pool) (now stack) × Weakenable t (now rows) (now pool) at (now witness) ⌝ }
     ensures { λ r. ⌜ ((groups : List ℤ) → Moved t (now (rows .entry)) (now (pool .entry)) (now (stack .entry)) r (now (rows .exit)) (now (pool .exit)) (now (stack .exit))
         (WEAKEN (id-of (row-at (now (rows .entry)) at)) (now (witness .entry)) groups)) ⌝ }

@@ -46,10 +46,11 @@ loop-again c =
     let l = c .before .before .loop in
     let v : ℤ = getD (a .lits .now) (l .i) (pos 0) in
     let w : ℤ = toZ w32 (ofZ w32 v) in
-    let same : w ≡ v = toZ-ofZ w32 v (record { sfits = c .tail .given }) in
-    (ap (λ (z : ℤ). set (l .tail) (l .i) z) same ∙ ap (λ (r : List ℤ). set r (l .i) v) (l .inv .0) ∙ over-next (a .tail .now) (a .lits .now) (l .i) (pos 0) (omega arith) (omega arith),
-    omega arith,
-    length-set (l .tail) (l .i) w ∙ l .inv .2)
+    let same : w ≡ v = toZ-ofZ w32 v (record { sfits = c .tail .given }) in (
+      ap (λ (z : ℤ). set (l .tail) (l .i) z) same ∙ ap (λ (r : List ℤ). set r (l .i) v) (l .inv .0) ∙ over-next (a .tail .now) (a .lits .now) (l .i) (pos 0) (omega arith) (omega arith),
+      omega arith,
+      length-set (l .tail) (l .i) w ∙ l .inv .2,
+    )
 
 same-length : tie.Need-same-length Inv-loop μ-loop
 same-length c = search needs

@@ -1,3 +1,4 @@
+-- `table::append` meets its contract: room is made, and then the frame's law is cited.
 use Prim.Native.Nat.{_+_, _<_, _≤_}
 use native.Mathlib.Omega.{arith}
 use lib.ListN.{length}
@@ -10,12 +11,12 @@ use Rattle.table.proofs.append.Tie as tie
 -- the numbers after room was made
 module _ (c : tie.After-make-room) where
   numbers : (c .make-room .result .count < length (c .make-room .last .0)) × (c .make-room .result .top + length (c .before .before .before .args .lits .now) ≤ length (c .make-room .last .1 .0))
-    × (c .make-room .result .words + length (c .before .before .before .args .lits .now) ≤ length (c .make-room .last .1 .0)) × (length (c .make-room .last .0) ≤ 1024) × (length (c .make-room .last .1 .0) ≤ 8192)
+      × (c .make-room .result .words + length (c .before .before .before .args .lits .now) ≤ length (c .make-room .last .1 .0)) × (length (c .make-room .last .0) ≤ 1024) × (length (c .make-room .last .1 .0) ≤ 8192)
   numbers =
-    let s = c .before .before .before in
-    let m = c .make-room .ensures (s .pre .0 .0) (s .pre .0 .1) in
-    let l = roomy-lengths m in
-    (omega arith, m .room, omega arith, m .fit .rows-lent, m .fit .pool-lent)
+      let s = c .before .before .before in
+      let m = c .make-room .ensures (s .pre .0 .0) (s .pre .0 .1) in
+      let l = roomy-lengths m in
+      (omega arith, m .room, omega arith, m .fit .rows-lent, m .fit .pool-lent)
 
 make-room-requires : tie.Need-make-room-requires
 make-room-requires c κs = search needs
@@ -72,9 +73,10 @@ returns c =
     let s = c .before .before .before .before .before .before .before .before .before .before .before .before .before in
     let u = c .before .before .before .before .before .before .before .before .before .before .make-room in
     let n = numbers (c .before .before .before .before .before .before .before .before .before .before) in
-    let w = tail-written (u .last .1 .0) (s .args .lits .now) (u .result .top) (omega arith) (c .before .before .before .before .write-literals .last .0) (c .before .before .before .before .write-literals .ensures) in
-    (λ e stack f new ok. rw (w, e) (add-after (u .ensures stack f) (s .args .id) (s .args .lits .now) (n .0) (n .1) new ok),
-    λ e stack hints f new ok. rw (w, e) (learn-after (u .ensures stack f) (s .args .id) (s .args .lits .now) (n .0) (n .1) new ok hints))
+    let w = tail-written (u .last .1 .0) (s .args .lits .now) (u .result .top) (omega arith) (c .before .before .before .before .write-literals .last .0) (c .before .before .before .before .write-literals .ensures) in (
+      λ e stack f new ok. rw (w, e) (add-after (u .ensures stack f) (s .args .id) (s .args .lits .now) (n .0) (n .1) new ok),
+      λ e stack hints f new ok. rw (w, e) (learn-after (u .ensures stack f) (s .args .id) (s .args .lits .now) (n .0) (n .1) new ok hints),
+    )
 
 pub append-spec : {M : Type 1} → statement M
 append-spec =
