@@ -3,7 +3,7 @@ use mathlib.Core.Path.{_≡_, refl, sym, _∙_, ap}
 use mathlib.Core.Logic.{⊎-elim}
 use mathlib.Core.List.{List, [], _∷_, _++_, reverse, reverse-cons, List·Memᴰ, List·Memᴰ·head, List·Memᴰ·tail, List·Memᴰ·append-cases, List·Memᴰ·cases-cons, List·Memᴰ·eq-of-singleton, List·Memᴰ·not-nil, append-assoc, append-nil}
 use Prim.Native.Nat.{ℕ, zero, suc, _+_, _-_, _<_, _≤_}
-use native.Mathlib.Nat.{sub-self, add-sub-of-le, eq-or-lt-of-le}
+use native.Mathlib.Nat.{sub-self, add-sub-of-le, add-sub-cancel-left, eq-or-lt-of-le}
 use native.Mathlib.Numerals.{add-one}
 use native.Mathlib.Omega.{arith}
 use lib.ListN.{length, getD, set, take, drop, length-append, length-drop, take-append-drop}
@@ -25,6 +25,10 @@ module _ {A : Type 0} where
 
   pub part-same : (l k : List A) (u s n : ℕ) → take u k ≡ take u l → s + n ≤ u → take n (drop s k) ≡ take n (drop s l)
   part-same l k u s n e h = sym (part-within k u s n h) ∙ ap (λ (z : List A). take n (drop s z)) e ∙ part-within l u s n h
+
+  -- `&l[x..x + y]`
+  pub part-is : (l : List A) {x y s n : ℕ} → x ≡ s → y ≡ n → take (x + y - x) (drop x l) ≡ take n (drop s l)
+  part-is l e h = rw (add-sub-cancel-left, e, h)
 
   -- a list split in two ways at one place
   pub split-same : (us vs : List A) (e d : A) (fs gs : List A) → us ++ e ∷ fs ≡ vs ++ d ∷ gs → length us ≡ length vs → (us ≡ vs) × (e ≡ d) × (fs ≡ gs)
@@ -62,6 +66,10 @@ module _ {A : Type 0} where
 
   pub length-over : (d s : List A) → length s ≤ length d → length (over d s) ≡ length d
   length-over d s h = omega (arith, length-append s (drop (length s) d), length-drop (length s) d)
+
+  -- `&z[0..n]`, of what was written over the front
+  pub over-front : (s y : List A) {z c : List A} {n : ℕ} → z ≡ s ++ y → s ≡ c → n ≡ length c → take (n - 0) z ≡ c
+  over-front s y {c} {n} e h k = let w : n - 0 ≡ length c = omega arith in rw (w, e, h) (take-append-seam c y)
 
   pub length-tail : (l : List A) (u : ℕ) → length (midOf u (length l - u) l) ≡ length l - u
   length-tail l u = length-take-le (length l - u) (drop u l) (omega (arith, length-drop u l))

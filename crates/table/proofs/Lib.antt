@@ -1,4 +1,5 @@
--- The laws of the working table, bottom up: lists, then a table's entries and the stack over them, then what readers may lean on.
+-- The laws of the working table, bottom up: entries and the stack over them (Facts to Changes), rows and pool as lists (Rows), what the code leaves
+-- of them (Moves, Packing, Weakening), what readers may lean on (Readers), and the empty table (Empty).
 pub mod Facts
 pub mod Places
 pub mod Entries
@@ -10,3 +11,4 @@ pub mod Moves
 pub mod Packing
 pub mod Readers
 pub mod Weakening
+pub mod Empty

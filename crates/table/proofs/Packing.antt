@@ -228,6 +228,10 @@ module _ {t : Table} {rows₀ : List Row} {pool : List ℤ} {stack : List ℕ} (
 
 -- ---- first room, then the frame
 
+pub roomy-is : {t u : Table} {rows rows₀ : List Row} {pool : List ℤ} {stack : List ℕ} {t′ : Table} {rows′ : List Row} {pool′ : List ℤ} {n m : ℕ} →
+    t ≡ u → rows ≡ rows₀ → n ≡ m → Roomy t rows pool stack t′ rows′ pool′ n → Roomy u rows₀ pool stack t′ rows′ pool′ m
+roomy-is a b c r = rw (a, b, c) at r
+
 module _ {t : Table} {rows : List Row} {pool : List ℤ} {stack : List ℕ} {t′ : Table} {rows′ : List Row} {pool′ : List ℤ} {n : ℕ} (m : Roomy t rows pool stack t′ rows′ pool′ n) where
   pub roomy-lengths : (length rows′ ≡ length rows) × (length pool′ ≡ length pool)
   roomy-lengths = (ap (λ (s : State). s .entries) (m .same), ap (λ (s : State). s .words) (m .same))

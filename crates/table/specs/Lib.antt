@@ -1,4 +1,4 @@
--- What the working table spells and keeps. Spelled is what a reader wants; Facts and Writes are the small words that it and the contracts use.
+-- What the working table spells and keeps: Spelled. Facts has the words that it uses, Room what is said of the pool's tail.
 pub mod Facts
 pub mod Spelled
 pub mod Room

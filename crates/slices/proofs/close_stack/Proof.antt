@@ -1,4 +1,4 @@
--- `slices::close_stack` meets its contract. The loop's invariant: the stack up to j are moved.
+-- `slices::close_stack` meets its contract. The loop's invariant: the ids up to j are moved.
 use mathlib.Core.Path.{_≡_, sym, _∙_, ap}
 use mathlib.Core.List.{List}
 use Prim.Native.Nat.{ℕ, _+_, _≤_, _-_}

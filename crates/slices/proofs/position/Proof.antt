@@ -1,3 +1,4 @@
+-- `slices::position` meets its contract. The loop's invariant: the id stands at j or below.
 use mathlib.Core.Path.{_≡_}
 use Prim.Native.Nat.{_+_, _-_, _<_}
 use native.Mathlib.Omega.{arith}

@@ -1,3 +1,4 @@
+-- `slices::write_both` meets its contract: one write after the other.
 use Prim.Native.Nat.{_+_}
 use native.Mathlib.Omega.{arith}
 use lib.ListN.{length}

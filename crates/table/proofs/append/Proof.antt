@@ -1,3 +1,4 @@
+-- `table::append` meets its contract: room is made, and then the frame's law is cited.
 use Prim.Native.Nat.{_+_, _<_, _≤_}
 use native.Mathlib.Omega.{arith}
 use lib.ListN.{length}

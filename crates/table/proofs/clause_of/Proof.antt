@@ -1,3 +1,4 @@
+-- `table::clause_of` meets its contract: the part's end less its start is the length that the row says.
 use native.Mathlib.Nat.{add-sub-cancel-left}
 use borrow.Author.Needs.{needs}
 use Rattle.table.proofs.clause_of.Statement.{statement}

@@ -1,3 +1,4 @@
+-- `table::find` meets its contract. The loop's invariant: no row before k has the id.
 use mathlib.Core.Path.{_≡_}
 use Prim.Native.Nat.{ℕ, _-_, _≤_, _<_}
 use native.Mathlib.Omega.{arith}

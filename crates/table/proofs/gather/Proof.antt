@@ -1,11 +1,13 @@
+-- `table::gather` meets its contract. The loop's invariant: the first i rows are packed, and their parts stand in the buffer.
 use mathlib.Core.Path.{_≡_, refl, sym, _∙_}
+use mathlib.Core.List.{List}
 use Prim.Native.Nat.{_+_, _-_, _≤_}
 use native.Mathlib.Omega.{arith}
-use native.Mathlib.Nat.{add-sub-cancel-left}
+use lib.IntN.{ℤ}
 use lib.ListN.{length, take, drop, length-set}
-use Rattle.table.specs.Spelled.{row-at, start-of, size, part, Inside}
+use Rattle.table.specs.Spelled.{Row, row-at, start-of, size, part, Inside}
 use Rattle.table.specs.Room.{Gathered}
-use Rattle.slices.proofs.Slices.{length-tail, tail-written, length-written}
+use Rattle.slices.proofs.Slices.{part-is, length-tail, tail-written, length-written}
 use Rattle.table.proofs.Packing.{length-part, inside-here, room-here, gathered-next}
 use borrow.Author.Needs.{needs}
 use Rattle.table.proofs.gather.Statement.{statement}
@@ -17,20 +19,38 @@ Inv-loop rows₀ pool buffer₀ count i₀ at₀ rows buffer i at = Gathered row
 abbrev μ-loop : tie.MeasureT-loop
 μ-loop rows₀ pool buffer₀ count i₀ at₀ rows buffer i at = count - i
 
--- the row's part lies in the pool, and the buffer has room for it
+-- the row that is read: its part lies in the pool, and the buffer has room for it
 module _ (c : tie.After-wide3 Inv-loop μ-loop) where
-  inside : Inside (length (c .before .before .before .before .before .before .before .args .pool .now)) (row-at (c .before .before .before .before .before .loop .rows) (c .before .before .before .before .before .loop .i))
-  inside = inside-here (c .before .before .before .before .before .before .before .pre .0 .1) (c .before .before .before .before .before .loop .inv .0) (omega arith)
+  abbrev start : tie.Start Inv-loop μ-loop
+  start = c .before .before .before .before .before .before .before
 
-  room : c .before .before .before .before .before .loop .at + size (row-at (c .before .before .before .before .before .loop .rows) (c .before .before .before .before .before .loop .i)) ≤ length (c .before .before .before .before .before .loop .buffer)
-  room = omega (arith, room-here (c .before .before .before .before .before .before .before .pre .0 .1) (c .before .before .before .before .before .loop .inv .0) (omega arith))
+  abbrev loop : tie.At-loop Inv-loop μ-loop
+  loop = c .before .before .before .before .before
 
-  sum : c .before .wide2 .result + c .wide3 .result ≡ size (row-at (c .before .before .before .before .before .loop .rows) (c .before .before .before .before .before .loop .i))
-  sum = rw (c .before .wide2 .ensures, c .wide3 .ensures)
+  abbrev pool : List ℤ
+  pool = start .args .pool .now
 
-  -- the slice that is handed on
-  handed : take (c .before .before .wide .result + (c .before .wide2 .result + c .wide3 .result) - c .before .before .wide .result) (drop (c .before .before .wide .result) (c .before .before .before .before .before .before .before .args .pool .now)) ≡ part (c .before .before .before .before .before .before .before .args .pool .now) (start-of (row-at (c .before .before .before .before .before .loop .rows) (c .before .before .before .before .before .loop .i))) (size (row-at (c .before .before .before .before .before .loop .rows) (c .before .before .before .before .before .loop .i)))
-  handed = rw (add-sub-cancel-left, c .before .before .wide .ensures, c .before .wide2 .ensures, c .wide3 .ensures)
+  abbrev row : Row
+  row = row-at (loop .loop .rows) (loop .loop .i)
+
+  inside : Inside (length pool) row
+  inside = inside-here (start .pre .0 .1) (loop .loop .inv .0) (omega arith)
+
+  room : loop .loop .at + size row ≤ length (loop .loop .buffer)
+  room = omega (arith, room-here (start .pre .0 .1) (loop .loop .inv .0) (omega arith))
+
+  sum : c .before .wide2 .result + c .wide3 .result ≡ size row
+  sum = omega (arith, c .before .wide2 .ensures, c .wide3 .ensures)
+
+  -- the slice that is handed on, as the code cuts it
+  abbrev cut : List ℤ
+  cut = let at = c .before .before .wide .result in take (at + (c .before .wide2 .result + c .wide3 .result) - at) (drop at pool)
+
+  handed : cut ≡ part pool (start-of row) (size row)
+  handed = part-is pool (c .before .before .wide .ensures) sum
+
+  long : length (part pool (start-of row) (size row)) ≡ size row
+  long = length-part pool row inside
 
 cast-count : tie.Need-cast-count Inv-loop μ-loop
 cast-count c = search needs
@@ -95,8 +115,8 @@ part-write-literals-end-2 c = omega (arith, inside (c .before))
 write-literals-requires : tie.Need-write-literals-requires Inv-loop μ-loop
 write-literals-requires c κs =
     let p = c .before .before in
-    let l = p .before .before .before .before .before .loop in
-    rw (handed p) (omega (arith, length-part (p .before .before .before .before .before .before .before .args .pool .now) (row-at (l .rows) (l .i)) (inside p), room p, length-tail (l .buffer) (l .at)))
+    let l = loop p .loop in
+    rw (handed p) (omega (arith, long p, room p, length-tail (l .buffer) (l .at)))
 
 array-read-t24 : tie.Need-array-read-t24 Inv-loop μ-loop
 array-read-t24 c = search needs
@@ -131,13 +151,17 @@ loop-less c = search needs
 loop-again : tie.Need-loop-again Inv-loop μ-loop
 loop-again c =
     let p = c .before .before .before .before in
-    let l = p .before .before .before .before .before .loop in
-    let f = p .before .before .before .before .before .before .before .pre .0 .1 in
-    let w = tail-written (l .buffer) (take (p .before .before .wide .result + (p .before .wide2 .result + p .wide3 .result) - p .before .before .wide .result) (drop (p .before .before .wide .result) (p .before .before .before .before .before .before .before .args .pool .now))) (l .at) (l .inv .2) (c .before .write-literals .last .0) (c .before .write-literals .ensures) in
+    let l = loop p .loop in
+    let w = tail-written (l .buffer) (cut p) (l .at) (l .inv .2) (c .before .write-literals .last .0) (c .before .write-literals .ensures) in
     let s = handed p in
     let e = sum p in
-    let n = length-written (l .buffer) (l .at) (part (p .before .before .before .before .before .before .before .args .pool .now) (start-of (row-at (l .rows) (l .i))) (size (row-at (l .rows) (l .i)))) (l .inv .2) (omega (arith, room p, length-part (p .before .before .before .before .before .before .before .args .pool .now) (row-at (l .rows) (l .i)) (inside p))) in
-    (rw (w, s, e) (gathered-next f (l .inv .0) (omega arith) (l .inv .2)), omega arith, rw (w, s, e) (omega (arith, room p, n)), simp length-set (l .inv .3), rw (w, s) (n ∙ l .inv .4))
+    let n = length-written (l .buffer) (l .at) (part (pool p) (start-of (row p)) (size (row p))) (l .inv .2) (omega (arith, room p, long p)) in (
+      rw (w, s, e) (gathered-next (start p .pre .0 .1) (l .inv .0) (omega arith) (l .inv .2)),
+      omega arith,
+      rw (w, s, e) (omega (arith, room p, n)),
+      simp length-set (l .inv .3),
+      rw (w, s) (n ∙ l .inv .4),
+    )
 
 same-length : tie.Need-same-length Inv-loop μ-loop
 same-length c = search needs
@@ -147,11 +171,11 @@ same-length-2 c = search needs
 
 returns : tie.Need-returns Inv-loop μ-loop
 returns c =
+    let s = c .before .before .before in
     let l = c .before .loop in
-    let f = c .before .before .before .pre .0 .1 in
-    let e : l .i ≡ c .before .before .before .args .t .count = omega arith in
-    let g : Gathered (c .before .before .before .args .rows .now) (c .before .before .before .args .pool .now) (c .before .before .before .args .t .count) (l .at) (l .rows) (l .buffer) = rw e at (l .inv .0) in
-    (g, g .at-is ∙ sym (f .core .counted))
+    let e : l .i ≡ s .args .t .count = omega arith in
+    let g : Gathered (s .args .rows .now) (s .args .pool .now) (s .args .t .count) (l .at) (l .rows) (l .buffer) = rw e at (l .inv .0) in
+    (g, g .at-is ∙ sym (s .pre .0 .1 .core .counted))
 
 pub gather-spec : {M : Type 1} → statement M
 gather-spec =

@@ -1,3 +1,4 @@
+-- `table::promote` meets its contract: the law of PROMOTE.
 use Rattle.table.proofs.Moves.{promote-moves}
 use borrow.Author.Needs.{needs}
 use Rattle.table.proofs.promote.Statement.{statement}

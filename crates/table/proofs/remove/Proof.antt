@@ -1,3 +1,4 @@
+-- `table::remove` meets its contract: the laws of FORGET and DROP.
 use Rattle.table.proofs.Moves.{forget-moves, drop-moves}
 use borrow.Author.Needs.{needs}
 use Rattle.table.proofs.remove.Statement.{statement}

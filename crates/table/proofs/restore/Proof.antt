@@ -1,3 +1,4 @@
+-- `table::restore` meets its contract: the law of RESTORE, at the place of the id that was found.
 use Rattle.table.proofs.Moves.{restore-moves}
 use borrow.Author.Needs.{needs}
 use Rattle.table.proofs.restore.Statement.{statement}

@@ -1,64 +1,75 @@
+-- `table::weaken` meets its contract: the row is blanked, room is made, and the record's law is cited.
 use mathlib.Core.Path.{_≡_, sym, _∙_, ap}
+use mathlib.Core.List.{List}
 use Prim.Native.Nat.{_+_, _-_, _≤_}
-use native.Mathlib.Nat.{add-sub-cancel-left}
 use native.Mathlib.Omega.{arith}
+use lib.IntN.{ℤ}
 use lib.ListN.{length, set, take, drop}
-use lib.Seq.{take-at}
-use Rattle.table.specs.Spelled.{Row, row-at, length-of, size, clause-part, Inside, Fit}
+use Rattle.table.specs.Spelled.{Row, row-at, length-of, size, clause-part, Inside, Fit, Weakenable}
 use Rattle.table.specs.Room.{Roomy, lessened, blank-row}
 use Rattle.table.specs.declared.Table.{Table}
+use Rattle.slices.proofs.Slices.{part-is, over-front}
 use Rattle.table.proofs.Rows.{clause-length}
 use Rattle.table.proofs.Moves.{row-held, row-inside, row-short}
+use Rattle.table.proofs.Packing.{roomy-is}
 use Rattle.table.proofs.Weakening.{blank-fit, record-numbers, weaken-moves}
 use borrow.Author.Needs.{needs}
 use Rattle.table.proofs.weaken.Statement.{statement}
 use Rattle.table.proofs.weaken.Tie as tie
 
--- the row as it was, and the words of it that are handed on
+-- the row as it was, and the words of it that are copied out
 module _ (c : tie.After-wide2) where
-  abbrev s : tie.Start
-  s = c .before .before .before .before
+  abbrev start : tie.Start
+  start = c .before .before .before .before
 
-  abbrev r : Row
-  r = row-at (c .before .before .before .before .args .rows .now) (c .before .before .before .before .args .at)
+  abbrev pool : List ℤ
+  pool = start .args .pool .now
 
-  inside : Inside (length (c .before .before .before .before .args .pool .now)) r
-  inside = row-inside (c .before .before .before .before .pre .0) (c .before .before .before .before .args .at) (c .before .before .before .before .pre .1 .within)
+  abbrev row : Row
+  row = row-at (start .args .rows .now) (start .args .at)
 
-  short : length-of r ≤ 256
-  short = row-short (c .before .before .before .before .pre .0) (c .before .before .before .before .args .at) (c .before .before .before .before .pre .1 .within)
+  abbrev judged : Weakenable (start .args .t) (start .args .rows .now) pool (start .args .at) (start .args .witness .now)
+  judged = start .pre .1
 
-  handed : take (c .before .wide .result + c .wide2 .result - c .before .wide .result) (drop (c .before .wide .result) (c .before .before .before .before .args .pool .now)) ≡ clause-part (c .before .before .before .before .args .pool .now) r
-  handed = rw (add-sub-cancel-left, c .before .wide .ensures, c .wide2 .ensures)
+  inside : Inside (length pool) row
+  inside = row-inside (start .pre .0) (start .args .at) (judged .within)
+
+  short : length-of row ≤ 256
+  short = row-short (start .pre .0) (start .args .at) (judged .within)
+
+  long : length (clause-part pool row) ≡ length-of row
+  long = clause-length pool row inside
+
+  handed : take (c .before .wide .result + c .wide2 .result - c .before .wide .result) (drop (c .before .wide .result) pool) ≡ clause-part pool row
+  handed = part-is pool (c .before .wide .ensures) (c .wide2 .ensures)
 
 -- the row is blank
-module _ (c : tie.After-blank) where
-  blanked : Fit (c .blank .result) (c .blank .last .0) (c .before .before .before .before .before .before .before .before .before .before .before .args .pool .now) (c .before .before .before .before .before .before .before .before .before .before .before .args .stack .now)
-  blanked = let a = c .blank .ensures .0 in let b = c .blank .ensures .1 in rw (a, b) (blank-fit (c .before .before .before .before .before .before .before .before .before .before .before .pre .0) (c .before .before .before .before .before .before .before .before .before .before .before .args .at) (c .before .before .before .before .before .before .before .before .before .before .before .pre .1 .within) (c .before .before .before .before .before .before .before .before .before .before .before .pre .1 .irredundant))
+blanked : (c : tie.After-blank) → let s = start (c .before .before .before .before .before .before .before) in Fit (c .blank .result) (c .blank .last .0) (s .args .pool .now) (s .args .stack .now)
+blanked c =
+    let p = c .before .before .before .before .before .before .before in
+    let a = c .blank .ensures .0 in
+    let b = c .blank .ensures .1 in
+    rw (a, b) (blank-fit (start p .pre .0) (start p .args .at) (judged p .within) (judged p .irredundant))
 
 -- room is made, and what is handed on are the clause's literals
 module _ (c : tie.After-make-room) where
-  abbrev r₁ : Row
-  r₁ = row-at (c .before .before .before .before .before .before .before .before .before .before .before .before .before .before .before .args .rows .now) (c .before .before .before .before .before .before .before .before .before .before .before .before .before .before .before .args .at)
+  abbrev here : tie.After-wide2
+  here = c .before .before .before .before .before .before .before .before .before .before .before
 
-  roomy : Roomy (lessened (c .before .before .before .before .before .before .before .before .before .before .before .before .before .before .before .args .t) (size r₁)) (set (c .before .before .before .before .before .before .before .before .before .before .before .before .before .before .before .args .rows .now) (c .before .before .before .before .before .before .before .before .before .before .before .before .before .before .before .args .at) (blank-row r₁)) (c .before .before .before .before .before .before .before .before .before .before .before .before .before .before .before .args .pool .now) (c .before .before .before .before .before .before .before .before .before .before .before .before .before .before .before .args .stack .now)
-      (c .make-room .result) (c .make-room .last .0) (c .make-room .last .1 .0) (length-of r₁ + length (c .before .before .before .before .before .before .before .before .before .before .before .before .before .before .before .args .witness .now))
+  abbrev witness : List ℤ
+  witness = start here .args .witness .now
+
+  roomy : let s = start here .args in let m = c .make-room in
+      Roomy (lessened (s .t) (size (row here))) (set (s .rows .now) (s .at) (blank-row (row here))) (pool here) (s .stack .now) (m .result) (m .last .0) (m .last .1 .0) (length-of (row here) + length witness)
   roomy =
-      let a = c .before .before .before .before .blank .ensures .0 in
-      let b = c .before .before .before .before .blank .ensures .1 in
-      let w = c .before .before .before .before .before .before .before .before .before .before .before .wide2 .ensures in
-      rw (a, b, w) at (c .make-room .ensures (c .before .before .before .before .before .before .before .before .before .before .before .before .before .before .before .args .stack .now) (blanked (c .before .before .before .before)))
+      let b = c .before .before .before .before in
+      roomy-is (b .blank .ensures .1) (b .blank .ensures .0) (omega (arith, here .wide2 .ensures)) (c .make-room .ensures (start here .args .stack .now) (blanked b))
 
-  copied : take (c .before .before .before .before .before .before .before .before .before .before .before .wide2 .result - 0) (c .before .before .before .before .before .before .before .write-literals .last .0) ≡ clause-part (c .before .before .before .before .before .before .before .before .before .before .before .before .before .before .before .args .pool .now) r₁
-  copied =
-      let z : c .before .before .before .before .before .before .before .before .before .before .before .wide2 .result - 0 ≡ c .before .before .before .before .before .before .before .before .before .before .before .wide2 .result = omega arith in
-      let w = c .before .before .before .before .before .before .before .write-literals .ensures in
-      let s = handed (c .before .before .before .before .before .before .before .before .before .before .before) in
-      let l = clause-length (c .before .before .before .before .before .before .before .before .before .before .before .before .before .before .before .args .pool .now) r₁ (inside (c .before .before .before .before .before .before .before .before .before .before .before)) in
-      rw (z, w, s) (take-at (clause-part (c .before .before .before .before .before .before .before .before .before .before .before .before .before .before .before .args .pool .now) r₁) _ (c .before .before .before .before .before .before .before .before .before .before .before .wide2 .result) (l ∙ sym (c .before .before .before .before .before .before .before .before .before .before .before .wide2 .ensures)))
+  copied : take (here .wide2 .result - 0) (c .before .before .before .before .before .before .before .write-literals .last .0) ≡ clause-part (pool here) (row here)
+  copied = over-front _ _ (c .before .before .before .before .before .before .before .write-literals .ensures) (handed here) (here .wide2 .ensures ∙ sym (long here))
 
-  fits : length (clause-part (c .before .before .before .before .before .before .before .before .before .before .before .before .before .before .before .args .pool .now) r₁) + length (c .before .before .before .before .before .before .before .before .before .before .before .before .before .before .before .args .witness .now) ≤ length-of r₁ + length (c .before .before .before .before .before .before .before .before .before .before .before .before .before .before .before .args .witness .now)
-  fits = omega (arith, clause-length (c .before .before .before .before .before .before .before .before .before .before .before .before .before .before .before .args .pool .now) r₁ (inside (c .before .before .before .before .before .before .before .before .before .before .before)))
+  fits : length (clause-part (pool here) (row here)) + length witness ≤ length-of (row here) + length witness
+  fits = omega (arith, long here)
 
 mul-row : tie.Need-mul-row
 mul-row c = search needs
@@ -97,19 +108,20 @@ part-write-literals-end : tie.Need-part-write-literals-end
 part-write-literals-end c = omega (arith, inside (c .before .before))
 
 write-literals-requires : tie.Need-write-literals-requires
-write-literals-requires c κs = rw (handed (c .before .before .before)) (omega (arith, short (c .before .before .before), clause-length (c .before .before .before .before .before .before .before .args .pool .now) (r (c .before .before .before)) (inside (c .before .before .before))))
+write-literals-requires c κs = let p = c .before .before .before in rw (handed p) (omega (arith, short p, long p))
 
 blank-requires : tie.Need-blank-requires
-blank-requires c κs = row-held (c .before .before .before .before .before .before .before .before .before .before .pre .0) (c .before .before .before .before .before .before .before .before .before .before .args .at) (c .before .before .before .before .before .before .before .before .before .before .pre .1 .within)
+blank-requires c κs = let p = c .before .before .before .before .before .before in row-held (start p .pre .0) (start p .args .at) (judged p .within)
 
 add-make-room : tie.Need-add-make-room
-add-make-room c = omega (arith, short (c .before .before .before .before .before .before .before .before .before .before), c .before .before .before .before .before .before .before .before .before .before .wide2 .ensures, c .before .before .before .before .before .before .before .before .before .before .before .before .before .before .pre .1 .room, c .before .before .before .before .before .before .before .before .before .before .before .before .before .before .pre .0 .pool-lent)
+add-make-room c = let p = c .before .before .before .before .before .before .before .before .before .before in omega (arith, short p, p .wide2 .ensures, judged p .room, start p .pre .0 .pool-lent)
 
 make-room-requires : tie.Need-make-room-requires
 make-room-requires c κs =
-    let s = c .before .before .before .before .before .before .before .before .before .before .before .before .before .before in
-    let held = row-held (s .pre .0) (s .args .at) (s .pre .1 .within) in
-    ((s .args .stack .now, blanked (c .before .before .before)), omega (arith, c .before .before .before .before .before .before .before .before .before .before .wide2 .ensures, ap (λ (t : Table). t .words) (c .before .before .before .blank .ensures .1), s .pre .1 .room))
+    let p = c .before .before .before .before .before .before .before .before .before .before in
+    let b = c .before .before .before in
+    let held = row-held (start p .pre .0) (start p .args .at) (judged p .within) in
+    ((start p .args .stack .now, blanked b), omega (arith, p .wide2 .ensures, ap (λ (t : Table). t .words) (b .blank .ensures .1), judged p .room))
 
 sub-write-record : tie.Need-sub-write-record
 sub-write-record c = search needs
@@ -118,14 +130,13 @@ part-write-record-start : tie.Need-part-write-record-start
 part-write-record-start c = search needs
 
 part-write-record-end : tie.Need-part-write-record-end
-part-write-record-end c = omega (arith, short (c .before .before .before .before .before .before .before .before .before .before .before .before .before .before .before .before .before), c .before .before .before .before .before .before .before .before .before .before .before .before .before .before .before .before .before .wide2 .ensures)
+part-write-record-end c = let p = c .before .before .before .before .before .before .before .before .before .before .before .before .before .before .before .before .before in omega (arith, short p, p .wide2 .ensures)
 
 write-record-requires : tie.Need-write-record-requires
 write-record-requires c κs =
-    let s = c .before .before .before .before .before .before .before .before .before .before .before .before .before .before .before .before .before .before .before .before .before .before in
     let k = c .before .before .before .before .before .before .before in
-    let j = s .pre .1 in
-    rw (copied k) (record-numbers (s .pre .0) (s .args .at) (j .within) (j .irredundant) (roomy k) (s .args .witness .now) (fits k) (j .witnessed) (j .room))
+    let p = here k in
+    rw (copied k) (record-numbers (start p .pre .0) (start p .args .at) (judged p .within) (judged p .irredundant) (roomy k) (witness k) (fits k) (judged p .witnessed) (judged p .room))
 
 same-length : tie.Need-same-length
 same-length c = search needs
@@ -138,11 +149,11 @@ same-length-3 c = search needs
 
 returns : tie.Need-returns
 returns c =
-    let s = c .before .before .before .before .before .before .before .before .before .before .before .before .before .before .before .before .before .before .before .before .before .before .before .before .before .before .before in
     let k = c .before .before .before .before .before .before .before .before .before .before .before .before in
-    let j = s .pre .1 in
+    let p = here k in
     let w = c .before .before .before .before .write-record .ensures in
-    λ groups. rw (w .0, w .1, w .2, w .3, copied k) (weaken-moves (s .pre .0) (s .args .at) (j .within) (j .irredundant) (roomy k) (s .args .witness .now) (fits k) (j .witnessed) groups)
+    λ groups. rw (w .0, w .1, w .2, w .3, copied k)
+    (weaken-moves (start p .pre .0) (start p .args .at) (judged p .within) (judged p .irredundant) (roomy k) (witness k) (fits k) (judged p .witnessed) groups)
 
 pub weaken-spec : {M : Type 1} → statement M
 weaken-spec =

@@ -1,0 +1,33 @@
+-- The empty table fits, and spells the state of opening: the invariant asks nothing that cannot be.
+use mathlib.Core.Path.{_≡_, refl}
+use mathlib.Core.List.{List}
+use Prim.Native.Nat.{ℕ, _<_, _≤_}
+use native.Mathlib.Omega.{arith}
+use lib.IntN.{ℤ}
+use lib.ListN.{length}
+use Rattle.rules.specs.Lists.{only}
+use Rattle.rules.specs.Answers.{opened}
+use Rattle.table.specs.Facts.{none, alone}
+use Rattle.table.specs.Spelled.{Row, spelled, Fit}
+use Rattle.table.specs.declared.Table.{Table}
+
+abbrev pub empty : ℕ → Table
+empty vars = record { vars = vars; highest = 0; count = 0; words = 0; depth = 0; top = 0 }
+
+module _ (vars : ℕ) (rows : List Row) (pool : List ℤ) (stack : List ℕ) where
+  pub empty-fit : 0 < vars → vars ≤ 2048 → length rows ≤ 1024 → length pool ≤ 8192 → length rows ≤ length stack → Fit (empty vars) rows pool stack
+  unfolding only
+  empty-fit low high entries words ids = record {
+    vars-fit = (low, high);
+    rows-lent = entries;
+    pool-lent = words;
+    stack-lent = ids;
+    rows-fit = omega arith;
+    pool-fit = omega arith;
+    stack-fit = omega arith;
+    core = record { rising = alone; known = none; inside = none; apart = alone; lawful = none; counted = refl; listed = record { each = none; once = alone; whole = refl } };
+  }
+
+  pub empty-spelled : spelled (empty vars) rows pool stack ≡ opened vars (length rows) (length pool)
+  unfolding only
+  empty-spelled = refl
