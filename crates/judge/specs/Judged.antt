@@ -23,9 +23,10 @@ pub record RowOf (t : Table) (rows : List Row) (place i k : ℕ) : Type 0 where
   pub named : id-of (row-at rows k) ≡ i
   pub placed : place-of (row-at rows k) ≡ place
 
-abbrev pub Located-in : Table → List Row → List ℤ → ℕ → ℕ → Found → Type 0
-Located-in t rows pool place i (At k) = RowOf t rows place i k
-Located-in t rows pool place i Nothing = has (clauses place pool (held-rows t rows)) i ≡ false
+-- where it is found, or that the place has no such clause
+abbrev pub Located-in : Table → List Row → ℕ → ℕ → Found → Type 0
+Located-in t rows place i (At k) = RowOf t rows place i k
+Located-in t rows place i Nothing = (pool : List ℤ) → has (clauses place pool (held-rows t rows)) i ≡ false
 
 -- what is judged passes, at that row, or is refused as the paper does
 abbrev pub Judges : Table → List Row → ℕ → ℕ → Check → Judged → Type 0

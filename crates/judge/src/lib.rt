@@ -1,17 +1,11 @@
 // What each operation but WEAKEN asks of the working table, in document 01's order. Everything is lent by &, so that a refusal cannot write.
 ghost use mathlib.Core.Path.{_≡_};
-ghost use mathlib.Core.Bool.{true};
 ghost use Prim.Native.Nat.{_≤_};
 ghost use lib.ListN.{length};
-ghost use Rattle.rules.specs.Lists.{all};
-ghost use Rattle.rules.specs.Terms.{in-range};
-ghost use Rattle.rules.specs.Answers.{_then_, free-entry, free-words};
 ghost use Rattle.rules.specs.Answers as paper;
 ghost use Rattle.rules.proofs.Propagation.{Stopped};
-ghost use Rattle.words.specs.Words.{assigned};
-ghost use Rattle.table.specs.Spelled.{Fit, spelled};
-ghost use Rattle.judge.specs.Judged.{Located-in, Judges, Offers, check-offered};
-use hints::Scope;
+ghost use Rattle.table.specs.Spelled.{Rising, held-rows};
+ghost use Rattle.judge.specs.Judged.{Located-in};
 use rules::Check;
 use rules::Fault;
 use rules::Verdict;
@@ -26,17 +20,10 @@ pub enum Judged {
 
 // ---- parts of several judgments
 
-// 4: the row of a clause of this place.
-pub fn locate(
-    rows: &[[u32; 5]],
-    pool: &[i32],
-    stack: &[u32],
-    t: Table,
-    place: u32,
-    id: u32,
-) -> Found
-    requires { ⌜ Fit t (now rows) (now pool) (now stack) × (place ≤ 2) ⌝ }
-    ensures { λ r. ⌜ Located-in t (now (rows .entry)) (now (pool .entry)) place id r ⌝ }
+// 4: the row of the clause of this id in this place.
+pub fn locate(rows: &[[u32; 5]], t: Table, place: u32, id: u32) -> Found
+    requires { ⌜ (t .count ≤ length (now rows)) × Rising (held-rows t (now rows)) ⌝ }
+    ensures { λ r. ⌜ Located-in t (now (rows .entry)) place id r ⌝ }
 {
     let n = t.count as usize;
     let Found::At(k) = table::find(&rows[..n], id) else {
@@ -58,231 +45,4 @@ pub fn decided(verdict: Verdict, at: usize, d: u32) -> Check
         Verdict::BadHint(n) => Check::Failed(Fault::Hint(at + n)),
         Verdict::UsedUp => Check::Failed(Fault::Unproved(d)),
     }
-}
-
-// 12, then 13: room for a clause of n literals, by the counts alone.
-fn room(rows: &[[u32; 5]], pool: &[i32], stack: &[u32], t: Table, n: usize) -> Check
-    requires { ⌜ Fit t (now rows) (now pool) (now stack) × (n ≤ 256) ⌝ }
-    ensures { λ r. ⌜ r ≡ (free-entry (spelled t (now (rows .entry)) (now (pool .entry)) (now (stack .entry))) then free-words (spelled t (now (rows .entry)) (now (pool .entry)) (now (stack .entry))) n) ⌝ }
-{
-    if rows.len() <= t.count as usize {
-        return Check::Failed(Fault::NoEntry);
-    }
-    if pool.len() < t.words as usize + n {
-        return Check::Failed(Fault::NoWords);
-    }
-    Check::Passed
-}
-
-// ---- the operations
-
-pub fn judge_add(
-    rows: &[[u32; 5]],
-    pool: &[i32],
-    stack: &[u32],
-    t: Table,
-    id: u32,
-    c: &[i32],
-) -> Check
-    requires { ⌜ Fit t (now rows) (now pool) (now stack) × (length (now c) ≤ 256) ⌝ }
-    ensures { λ r. ⌜ r ≡ paper.check-add (spelled t (now (rows .entry)) (now (pool .entry)) (now (stack .entry))) id (now (c .entry)) ⌝ }
-{
-    let flaw = clause::flaw(t.vars as usize, c, 2);
-    if let Check::Failed(f) = flaw {
-        return Check::Failed(f);
-    }
-    if id <= t.highest {
-        return Check::Failed(Fault::Id(id));
-    }
-    let n = t.count as usize;
-    let depth = t.depth as usize;
-    let marks = clause::mark(c);
-    let plus = marks.plus;
-    let minus = marks.minus;
-    let clean = walk::cleanly(&rows[..n], pool, &stack[..depth], &plus, &minus);
-    if let Check::Failed(f) = clean {
-        return Check::Failed(f);
-    }
-    room(rows, pool, stack, t, c.len())
-}
-
-pub fn judge_learn(
-    rows: &[[u32; 5]],
-    pool: &[i32],
-    stack: &[u32],
-    t: Table,
-    id: u32,
-    c: &[i32],
-    hints: &[i32],
-) -> Check
-    requires { ⌜ Fit t (now rows) (now pool) (now stack) × (length (now c) ≤ 256) × (length (now hints) ≤ 4096) ⌝ }
-    ensures { λ r. ⌜ r ≡ paper.check-learn (spelled t (now (rows .entry)) (now (pool .entry)) (now (stack .entry))) id (now (c .entry)) (now (hints .entry)) ⌝ }
-{
-    let flaw = clause::flaw(t.vars as usize, c, 3);
-    if let Check::Failed(f) = flaw {
-        return Check::Failed(f);
-    }
-    if id <= t.highest {
-        return Check::Failed(Fault::Id(id));
-    }
-    let free = room(rows, pool, stack, t, c.len());
-    if let Check::Failed(f) = free {
-        return Check::Failed(f);
-    }
-    let n = t.count as usize;
-    let scope = Scope {
-        places: 2,
-        except: 0,
-    };
-    let verdict = hints::proves(&rows[..n], pool, scope, c, hints);
-    decided(verdict, 3 + c.len(), 0)
-}
-
-// FORGET and PROMOTE.
-pub fn judge_learned(rows: &[[u32; 5]], pool: &[i32], stack: &[u32], t: Table, id: u32) -> Judged
-    requires { ⌜ Fit t (now rows) (now pool) (now stack) ⌝ }
-    ensures { λ r. ⌜ Judges t (now (rows .entry)) 1 id (paper.held-in (spelled t (now (rows .entry)) (now (pool .entry)) (now (stack .entry)) .learned) id) r ⌝ }
-{
-    let Found::At(k) = locate(rows, pool, stack, t, 1, id) else {
-        return Judged::Refused(Fault::Id(id));
-    };
-    Judged::Accepted(k)
-}
-
-pub fn judge_drop(
-    rows: &[[u32; 5]],
-    pool: &[i32],
-    stack: &[u32],
-    t: Table,
-    id: u32,
-    hints: &[i32],
-) -> Judged
-    requires { ⌜ Fit t (now rows) (now pool) (now stack) × (length (now hints) ≤ 4096) ⌝ }
-    ensures { λ r. ⌜ Judges t (now (rows .entry)) 0 id (paper.check-drop (spelled t (now (rows .entry)) (now (pool .entry)) (now (stack .entry))) id (now (hints .entry))) r ⌝ }
-{
-    let Found::At(k) = locate(rows, pool, stack, t, 0, id) else {
-        return Judged::Refused(Fault::Id(id));
-    };
-    let n = t.count as usize;
-    let scope = Scope {
-        places: 1,
-        except: id,
-    };
-    let c = table::clause_of(rows, pool, k);
-    let verdict = hints::proves(&rows[..n], pool, scope, c, hints);
-    let check = decided(verdict, 2, 0);
-    if let Check::Failed(f) = check {
-        return Judged::Refused(f);
-    }
-    Judged::Accepted(k)
-}
-
-pub fn judge_restore(rows: &[[u32; 5]], pool: &[i32], stack: &[u32], t: Table, id: u32) -> Judged
-    requires { ⌜ Fit t (now rows) (now pool) (now stack) ⌝ }
-    ensures { λ r. ⌜ Judges t (now (rows .entry)) 2 id (paper.check-restore (spelled t (now (rows .entry)) (now (pool .entry)) (now (stack .entry))) id) r ⌝ }
-{
-    let Found::At(k) = locate(rows, pool, stack, t, 2, id) else {
-        return Judged::Refused(Fault::Id(id));
-    };
-    let n = t.count as usize;
-    let depth = t.depth as usize;
-    let marks = clause::mark(table::clause_of(rows, pool, k));
-    let plus = marks.plus;
-    let minus = marks.minus;
-    let above = table::position(stack, depth, id) + 1;
-    let clean = walk::cleanly(&rows[..n], pool, &stack[above..depth], &plus, &minus);
-    if let Check::Failed(f) = clean {
-        return Judged::Refused(f);
-    }
-    Judged::Accepted(k)
-}
-
-// What SAT's checks come to, and the words of the offered assignment.
-pub struct Offer {
-    pub check: Check,
-    pub offered: [u64; 32],
-}
-
-// 11, 5, 10 of an offered assignment.
-fn judge_offered(
-    rows: &[[u32; 5]],
-    pool: &[i32],
-    stack: &[u32],
-    t: Table,
-    assumed: &[i32],
-    offered: &[u64; 32],
-) -> Check
-    requires { ⌜ Fit t (now rows) (now pool) (now stack) × (length (now assumed) ≤ 256) × (all (in-range 2048) (now assumed) ≡ true) ⌝ }
-    ensures { λ r. ⌜ r ≡ check-offered (spelled t (now (rows .entry)) (now (pool .entry)) (now (stack .entry))) (assigned (now (offered .entry))) (now (assumed .entry)) ⌝ }
-{
-    let wrong = walk::assumed_true(offered, assumed, 2);
-    if let Check::Failed(f) = wrong {
-        return Check::Failed(f);
-    }
-    let n = t.count as usize;
-    let depth = t.depth as usize;
-    let marks = clause::mark(assumed);
-    let plus = marks.plus;
-    let minus = marks.minus;
-    let clean = walk::cleanly(&rows[..n], pool, &stack[..depth], &plus, &minus);
-    if let Check::Failed(f) = clean {
-        return Check::Failed(f);
-    }
-    walk::satisfied(&rows[..n], pool, offered)
-}
-
-pub fn judge_sat(
-    rows: &[[u32; 5]],
-    pool: &[i32],
-    stack: &[u32],
-    t: Table,
-    assumed: &[i32],
-    vs: &[i32],
-) -> Offer
-    requires { ⌜ Fit t (now rows) (now pool) (now stack) × (length (now assumed) ≤ 256) × (length (now vs) ≤ 4096) ⌝ }
-    ensures { λ r. ⌜ (r .check ≡ paper.check-sat (spelled t (now (rows .entry)) (now (pool .entry)) (now (stack .entry))) (now (assumed .entry)) (now (vs .entry))) × Offers (now (vs .entry)) (r .check) (r .offered) ⌝ }
-{
-    let none = [0u64; 32];
-    let vars = t.vars as usize;
-    let flaw = clause::ranged(vars, assumed, 2);
-    if let Check::Failed(f) = flaw {
-        return Offer {
-            check: Check::Failed(f),
-            offered: none,
-        };
-    }
-    let fall = clause::ascending(vars, vs, 2 + assumed.len());
-    if let Check::Failed(f) = fall {
-        return Offer {
-            check: Check::Failed(f),
-            offered: none,
-        };
-    }
-    let offered = words::offer(vs);
-    let check = judge_offered(rows, pool, stack, t, assumed, &offered);
-    Offer { check, offered }
-}
-
-pub fn judge_unsat(
-    rows: &[[u32; 5]],
-    pool: &[i32],
-    stack: &[u32],
-    t: Table,
-    assumed: &[i32],
-    hints: &[i32],
-) -> Check
-    requires { ⌜ Fit t (now rows) (now pool) (now stack) × (length (now assumed) ≤ 256) × (length (now hints) ≤ 4096) ⌝ }
-    ensures { λ r. ⌜ r ≡ paper.check-unsat (spelled t (now (rows .entry)) (now (pool .entry)) (now (stack .entry))) (now (assumed .entry)) (now (hints .entry)) ⌝ }
-{
-    let flaw = clause::ranged(t.vars as usize, assumed, 2);
-    if let Check::Failed(f) = flaw {
-        return Check::Failed(f);
-    }
-    let n = t.count as usize;
-    let scope = Scope {
-        places: 2,
-        except: 0,
-    };
-    let verdict = hints::refutes(&rows[..n], pool, scope, assumed, hints);
-    decided(verdict, 2 + assumed.len(), 0)
 }
