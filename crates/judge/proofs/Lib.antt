@@ -1,0 +1,4 @@
+pub mod Located
+pub mod Order
+pub mod Stack
+pub mod Verdicts

@@ -1,0 +1,193 @@
+// What each operation but WEAKEN asks of the working table, in document 01's order. Everything is lent by &, so that a refusal cannot write.
+ghost use mathlib.Core.Path.{_≡_};
+ghost use mathlib.Core.List.{List};
+ghost use Prim.Native.Nat.{ℕ, _≤_};
+ghost use lib.ListN.{length};
+ghost use Rattle.rules.specs.Answers.{_then_, free-entry, free-words};
+ghost use Rattle.rules.specs.Answers as paper;
+ghost use Rattle.rules.proofs.Propagation.{Stopped};
+ghost use Rattle.table.specs.Spelled.{Fit, Rising, held-rows, spelled};
+ghost use Rattle.judge.specs.Judged.{Located-in, Judges};
+use hints::Scope;
+use rules::Check;
+use rules::Fault;
+use rules::Verdict;
+use table::Found;
+use table::Table;
+
+// The row of the clause that a frame names, where it is accepted.
+pub enum Judged {
+    Accepted(usize),
+    Refused(Fault),
+}
+
+// ---- parts of several judgments
+
+// 4: the row of the clause of this id in this place.
+pub fn locate(rows: &[[u32; 5]], t: Table, place: u32, id: u32) -> Found
+    requires { ⌜ (t .count ≤ length (now rows)) × Rising (held-rows t (now rows)) ⌝ }
+    ensures { λ r. ⌜ Located-in t (now (rows .entry)) place id r ⌝ }
+{
+    let n = t.count as usize;
+    let Found::At(k) = table::find(&rows[..n], id) else {
+        return Found::Nothing;
+    };
+    if table::place_at(rows, k) == place {
+        return Found::At(k);
+    }
+    Found::Nothing
+}
+
+// 7 and 8: `at` is the index of the first hint, `d` the detail of 8.
+pub fn decided(verdict: Verdict, at: usize, d: u32) -> Check
+    requires { ⌜ (at ≤ 4096) × Stopped 4096 verdict ⌝ }
+    ensures { λ r. ⌜ r ≡ paper.decided at d verdict ⌝ }
+{
+    match verdict {
+        Verdict::Proved(_) => Check::Passed,
+        Verdict::BadHint(n) => Check::Failed(Fault::Hint(at + n)),
+        Verdict::UsedUp => Check::Failed(Fault::Unproved(d)),
+    }
+}
+
+// 12, then 13: room for a clause of n literals, by the counts alone.
+fn room(rows: &[[u32; 5]], pool: &[i32], t: Table, n: usize) -> Check
+    requires { ⌜ n ≤ 256 ⌝ }
+    ensures { λ r. ⌜ ((stack : List ℕ) → Fit t (now (rows .entry)) (now (pool .entry)) stack
+        → r ≡ (free-entry (spelled t (now (rows .entry)) (now (pool .entry)) stack) then free-words (spelled t (now (rows .entry)) (now (pool .entry)) stack) n)) ⌝ }
+{
+    if rows.len() <= t.count as usize {
+        return Check::Failed(Fault::NoEntry);
+    }
+    if pool.len() < t.words as usize + n {
+        return Check::Failed(Fault::NoWords);
+    }
+    Check::Passed
+}
+
+// ---- the operations
+
+pub fn judge_add(
+    rows: &[[u32; 5]],
+    pool: &[i32],
+    stack: &[u32],
+    t: Table,
+    id: u32,
+    c: &[i32],
+) -> Check
+    requires { ⌜ Fit t (now rows) (now pool) (now stack) × (length (now c) ≤ 256) ⌝ }
+    ensures { λ r. ⌜ r ≡ paper.check-add (spelled t (now (rows .entry)) (now (pool .entry)) (now (stack .entry))) id (now (c .entry)) ⌝ }
+{
+    let flaw = clause::flaw(t.vars as usize, c, 2);
+    if let Check::Failed(f) = flaw {
+        return Check::Failed(f);
+    }
+    if id <= t.highest {
+        return Check::Failed(Fault::Id(id));
+    }
+    let n = t.count as usize;
+    let depth = t.depth as usize;
+    let marks = clause::mark(c);
+    let plus = marks.plus;
+    let minus = marks.minus;
+    let clean = walk::cleanly(&rows[..n], pool, &stack[..depth], &plus, &minus);
+    if let Check::Failed(f) = clean {
+        return Check::Failed(f);
+    }
+    room(rows, pool, t, c.len())
+}
+
+pub fn judge_learn(
+    rows: &[[u32; 5]],
+    pool: &[i32],
+    stack: &[u32],
+    t: Table,
+    id: u32,
+    c: &[i32],
+    hints: &[i32],
+) -> Check
+    requires { ⌜ Fit t (now rows) (now pool) (now stack) × (length (now c) ≤ 256) × (length (now hints) ≤ 4096) ⌝ }
+    ensures { λ r. ⌜ r ≡ paper.check-learn (spelled t (now (rows .entry)) (now (pool .entry)) (now (stack .entry))) id (now (c .entry)) (now (hints .entry)) ⌝ }
+{
+    let flaw = clause::flaw(t.vars as usize, c, 3);
+    if let Check::Failed(f) = flaw {
+        return Check::Failed(f);
+    }
+    if id <= t.highest {
+        return Check::Failed(Fault::Id(id));
+    }
+    let free = room(rows, pool, t, c.len());
+    if let Check::Failed(f) = free {
+        return Check::Failed(f);
+    }
+    let n = t.count as usize;
+    let scope = Scope {
+        places: 2,
+        except: 0,
+    };
+    let verdict = hints::proves(&rows[..n], pool, scope, c, hints);
+    decided(verdict, 3 + c.len(), 0)
+}
+
+// FORGET and PROMOTE.
+pub fn judge_learned(rows: &[[u32; 5]], pool: &[i32], stack: &[u32], t: Table, id: u32) -> Judged
+    requires { ⌜ Fit t (now rows) (now pool) (now stack) ⌝ }
+    ensures { λ r. ⌜ Judges t (now (rows .entry)) 1 id (paper.held-in (spelled t (now (rows .entry)) (now (pool .entry)) (now (stack .entry)) .learned) id) r ⌝ }
+{
+    let Found::At(k) = locate(rows, t, 1, id) else {
+        return Judged::Refused(Fault::Id(id));
+    };
+    Judged::Accepted(k)
+}
+
+pub fn judge_drop(
+    rows: &[[u32; 5]],
+    pool: &[i32],
+    stack: &[u32],
+    t: Table,
+    id: u32,
+    hints: &[i32],
+) -> Judged
+    requires { ⌜ Fit t (now rows) (now pool) (now stack) × (length (now hints) ≤ 4096) ⌝ }
+    ensures { λ r. ⌜ Judges t (now (rows .entry)) 0 id (paper.check-drop (spelled t (now (rows .entry)) (now (pool .entry)) (now (stack .entry))) id (now (hints .entry))) r ⌝ }
+{
+    let Found::At(k) = locate(rows, t, 0, id) else {
+        return Judged::Refused(Fault::Id(id));
+    };
+    let n = t.count as usize;
+    let scope = Scope {
+        places: 1,
+        except: id,
+    };
+    let c = table::clause_of(rows, pool, k);
+    let verdict = hints::proves(&rows[..n], pool, scope, c, hints);
+    let check = decided(verdict, 2, 0);
+    if let Check::Failed(f) = check {
+        return Judged::Refused(f);
+    }
+    Judged::Accepted(k)
+}
+
+pub fn judge_unsat(
+    rows: &[[u32; 5]],
+    pool: &[i32],
+    stack: &[u32],
+    t: Table,
+    assumed: &[i32],
+    hints: &[i32],
+) -> Check
+    requires { ⌜ Fit t (now rows) (now pool) (now stack) × (length (now assumed) ≤ 256) × (length (now hints) ≤ 4096) ⌝ }
+    ensures { λ r. ⌜ r ≡ paper.check-unsat (spelled t (now (rows .entry)) (now (pool .entry)) (now (stack .entry))) (now (assumed .entry)) (now (hints .entry)) ⌝ }
+{
+    let flaw = clause::ranged(t.vars as usize, assumed, 2);
+    if let Check::Failed(f) = flaw {
+        return Check::Failed(f);
+    }
+    let n = t.count as usize;
+    let scope = Scope {
+        places: 2,
+        except: 0,
+    };
+    let verdict = hints::refutes(&rows[..n], pool, scope, assumed, hints);
+    decided(verdict, 2 + assumed.len(), 0)
+}
