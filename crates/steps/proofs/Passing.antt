@@ -1,0 +1,72 @@
+-- What an accepted frame's checks leave for the writers, and how judgment and write make an application.
+use mathlib.Core.Path.{_≡_, refl, sym, _∙_, ap}
+use mathlib.Core.Bool.{true}
+use mathlib.Core.List.{List}
+use Prim.Native.Nat.{ℕ, _+_, _≤_, _<_}
+use native.Mathlib.Omega.{arith}
+use lib.IntN.{ℤ}
+use lib.ListN.{length}
+use borrow.Author.Tests.{ltb-true, leb-true}
+use Rattle.rules.specs.Terms.{is-clause, State, everything, room}
+use Rattle.rules.specs.Frames.{Frame, next}
+use Rattle.rules.specs.Answers.{check, check-add, check-learn, flaw, unseen, new-id, free-entry, free-words}
+use Rattle.rules.specs.declared.Fault.{Fault}
+use Rattle.rules.specs.declared.Check.{Check}
+use Rattle.rules.specs.declared.Check.the-variants.{Passed, Failed}
+use Rattle.rules.specs.declared.Answer.the-variants.{Accepted, Refused}
+use Rattle.rules.proofs.Checks.{then-left, then-right, need-true, flaw-clause}
+use Rattle.table.specs.Spelled.{Row, spelled, Fit, Moved}
+use Rattle.table.specs.declared.Table.{Table}
+use Rattle.table.proofs.Readers.{count-held, words-held}
+use Rattle.steps.specs.Applied.{answer-of, Same, Applied}
+use Rattle.steps.specs.declared.Stepped.{Stepped}
+
+-- ---- an application
+
+module _ {t : Table} {rows : List Row} {pool : List ℤ} {stack : List ℕ} (f : Frame) where
+  pub refused : (e : Fault) → check (spelled t rows pool stack) f ≡ Failed e → Applied t rows pool stack f (record { answer = Refused e; table = t }) rows pool stack
+  refused e q = record {
+    answered = sym (ap answer-of q);
+    moved = λ p. let z : _≡_ {A = ℕ} 0 1 = cc in absurd (omega arith);
+    left = λ d p. record { table = refl; same-rows = refl; same-pool = refl; same-stack = refl };
+  }
+
+  pub accepted : {t′ : Table} {rows′ : List Row} {pool′ : List ℤ} {stack′ : List ℕ} → check (spelled t rows pool stack) f ≡ Passed → Moved t rows pool stack t′ rows′ pool′ stack′ f → Applied t rows pool stack f (record { answer = Accepted 0; table = t′ }) rows′ pool′ stack′
+  accepted q m = record {
+    answered = sym (ap answer-of q);
+    moved = λ p. m;
+    left = λ d p. let z : _≡_ {A = ℕ} 0 1 = cc in absurd (omega arith);
+  }
+
+-- ---- a new clause
+
+pub record NewClause (t : Table) (rows : List Row) (pool : List ℤ) (i : ℕ) (c : List ℤ) : Type 0 where
+  pub entry : t .count < length rows
+  pub words : t .words + length c ≤ length pool
+  pub new : t .highest < i
+  pub clause : is-clause (t .vars) c ≡ true
+
+module _ {t : Table} {rows : List Row} {pool : List ℤ} {stack : List ℕ} (fit : Fit t rows pool stack) (i : ℕ) (c : List ℤ) (short : length c ≤ 256) where
+  abbrev st : State
+  st = spelled t rows pool stack
+
+  -- from the checks that ADD and LEARN share
+  new-clause : (at : ℕ) → flaw (t .vars) unseen at c ≡ Passed → new-id st i ≡ Passed → free-entry st ≡ Passed → free-words st (length c) ≡ Passed → NewClause t rows pool i c
+  new-clause at a b d e = record {
+    entry = let h = ltb-true (length (everything st)) (length rows) (need-true _ _ d) in omega (arith, count-held fit);
+    words = let h = leb-true (room (everything st) + length c) (length pool) (need-true _ _ e) in omega (arith, words-held fit);
+    new = ltb-true (t .highest) i (need-true _ _ b);
+    clause = flaw-clause (t .vars) at c short a;
+  }
+
+  pub add-passed : check-add st i c ≡ Passed → NewClause t rows pool i c
+  add-passed e =
+      let n = then-right _ _ e in
+      let r = then-right _ _ (then-right _ _ n) in
+      new-clause 2 (then-left _ _ e) (then-left _ _ n) (then-left _ _ r) (then-right _ _ r)
+
+  pub learn-passed : (hints : List ℤ) → check-learn st i c hints ≡ Passed → NewClause t rows pool i c
+  learn-passed hints e =
+      let n = then-right _ _ e in
+      let r = then-right _ _ n in
+      new-clause 3 (then-left _ _ e) (then-left _ _ n) (then-left _ _ r) (then-left _ _ (then-right _ _ r))
