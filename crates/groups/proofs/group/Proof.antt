@@ -1,0 +1,135 @@
+use mathlib.Core.Path.{_≡_, sym, _∙_, ap, ap₂}
+use mathlib.Core.List.{List}
+use Prim.Native.Nat.{ℕ, _+_, _-_, _≤_}
+use native.Mathlib.Omega.{arith}
+use lib.IntN.{ℤ}
+use lib.ListN.{length}
+use borrow.Author.Needs.{needs}
+use Rattle.rules.specs.Terms.{Literals, Held}
+use Rattle.rules.specs.Propagation.{Allowed, among, proves}
+use Rattle.rules.specs.Frames.{target}
+use Rattle.rules.specs.Answers.{decided}
+use Rattle.rules.specs.declared.Check.{Check}
+use Rattle.words.specs.Words.{set-of}
+use Rattle.table.specs.Spelled.{row-at, held}
+use Rattle.hints.proofs.Scopes.{allows-others}
+use Rattle.judge.proofs.Verdicts.{stopped-within}
+use Rattle.groups.specs.Groups.{others, hints-of, Headed}
+use Rattle.groups.specs.declared.Onward.the-variants.{Go}
+use Rattle.groups.proofs.Groups.{not-headed, few-hints, unproved, proved}
+use Rattle.groups.proofs.group.Statement.{statement}
+use Rattle.groups.proofs.group.Tie as tie
+
+-- the header is read, and its hints end before `end`
+module _ (x : tie.After-known-told) where
+  abbrev s : tie.Start
+  s = x .before .before .before .before .before
+
+  abbrev A : Allowed
+  A = among (others (s .args .id) (s .args .pool .now) (s .args .rows .now))
+
+  abbrev W : Literals
+  W = set-of (s .args .wplus .now) (s .args .wminus .now)
+
+  abbrev D : Held
+  D = held (s .args .pool .now) (row-at (s .args .rows .now) (s .args .d))
+
+  abbrev end : ℕ
+  end = x .before .head .given .0 .0
+
+  headed : Headed (s .args .from) (s .args .ws .now) (s .args .at) (D .id) (Go end)
+  headed = rw (x .before .head .given .1, x .before .before .before .before .id-at .ensures) at (x .before .before .before .header .ensures)
+
+-- the hints are judged
+module _ (x : tie.After-proves-with) where
+  abbrev read : tie.After-known-told
+  read = x .before .before .before
+
+  abbrev those : List ℤ
+  those = hints-of (s read .args .ws .now) (s read .args .at) (end read)
+
+  verdict : x .proves-with .result ≡ proves (A read) (target (s read .args .c .now) (W read) (D read .lits)) those
+  verdict = x .proves-with .ensures ∙ ap₂ (λ B d. proves B (target (s read .args .c .now) (W read) d) those) (allows-others (s read .pre .0) (s read .args .id)) (x .before .before .clause-of .ensures)
+
+  said : {r : Check} → r ≡ decided (s read .args .from + (s read .args .at + 2)) (read .before .before .before .before .id-at .result) (x .proves-with .result) → r ≡ decided (s read .args .from + (s read .args .at + 2)) (D read .id) (x .proves-with .result)
+  said e = e ∙ ap (λ i. decided (s read .args .from + (s read .args .at + 2)) i (x .proves-with .result)) (read .before .before .before .before .id-at .ensures)
+
+id-at-requires : tie.Need-id-at-requires
+id-at-requires c κs = search needs
+
+header-requires : tie.Need-header-requires
+header-requires c κs = search needs
+
+enum-known-head : tie.Need-enum-known-head
+enum-known-head c = search needs
+
+enum-told : tie.Need-enum-told
+enum-told c = search needs
+
+returns : tie.Need-returns
+returns c = let e = c .enum-told .given .1 in rw e (not-headed _ _ _ _ _ _ _ _ (rw (e, c .before .before .before .id-at .ensures) at (c .before .before .header .ensures)))
+
+add-start : tie.Need-add-start
+add-start c = search needs
+
+clause-of-requires : tie.Need-clause-of-requires
+clause-of-requires c κs = let t = s c .pre in (t .2, t .0 .inside _ (t .2))
+
+mul-proves-with : tie.Need-mul-proves-with
+mul-proves-with c = search needs
+
+sub-proves-with : tie.Need-sub-proves-with
+sub-proves-with c = headed (c .before) .ahead .0
+
+part-proves-with-start : tie.Need-part-proves-with-start
+part-proves-with-start c = let h = headed (c .before) .ahead in omega arith
+
+part-proves-with-end : tie.Need-part-proves-with-end
+part-proves-with-end c = let h = headed (c .before) .ahead in omega arith
+
+proves-with-requires : tie.Need-proves-with-requires
+proves-with-requires c κs = let t = s (c .before .before) .pre in (t .0, t .1, rw (c .before .clause-of .ensures) (t .0 .ranged _ (t .2)))
+
+add-decided : tie.Need-add-decided
+add-decided c = search needs
+
+decided-requires : tie.Need-decided-requires
+decided-requires c κs =
+    let y = read c in
+    let h = headed y .ahead in
+    (omega (arith, s y .pre .4), stopped-within _ _ _ 4096 (omega (arith, few-hints (s y .args .ws .now) (s y .args .at) (end y), s y .pre .4)) (verdict c))
+
+enum-known-check : tie.Need-enum-known-check
+enum-known-check c = search needs
+
+returns-2 : tie.Need-returns-2
+returns-2 c = let x = c .before .before .before .before in unproved _ _ _ _ _ _ _ _ (headed (read x)) _ (verdict x) _ (sym (said x (c .before .before .before .decided .ensures)) ∙ c .before .check .given .1)
+
+enum-told-2 : tie.Need-enum-told-2
+enum-told-2 c = search needs
+
+returns-3 : tie.Need-returns-3
+returns-3 c = let x = c .before .before .before in proved _ _ _ _ _ _ _ _ (headed (read x)) _ (verdict x) (sym (said x (c .before .before .decided .ensures)) ∙ c .enum-told2 .given .1)
+
+pub group-spec : {M : Type 1} → statement M
+group-spec =
+    tie.close
+    (tie.spec
+    id-at-requires
+    header-requires
+    enum-known-head
+    enum-told
+    returns
+    add-start
+    clause-of-requires
+    mul-proves-with
+    sub-proves-with
+    part-proves-with-start
+    part-proves-with-end
+    proves-with-requires
+    add-decided
+    decided-requires
+    enum-known-check
+    returns-2
+    enum-told-2
+    returns-3)

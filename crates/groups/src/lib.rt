@@ -1,0 +1,188 @@
+// WEAKEN's judgment. Each other irredundant clause that the witness may break needs a group of hints. Everything is lent by &, so that a refusal cannot write.
+ghost use mathlib.Core.Path.{_≡_};
+ghost use mathlib.Core.Bool.{true};
+ghost use Prim.Native.Nat.{_+_, _≤_, _<_};
+ghost use lib.ListN.{length};
+ghost use Rattle.rules.specs.Lists.{all, only};
+ghost use Rattle.rules.specs.Terms.{in-range};
+ghost use Rattle.rules.specs.Propagation.{among};
+ghost use Rattle.rules.specs.Frames.{needs-group};
+ghost use Rattle.rules.specs.Answers as paper;
+ghost use Rattle.words.specs.Words.{set-of};
+ghost use Rattle.table.specs.Spelled.{Fit, Readable, held, row-at, spelled};
+ghost use Rattle.judge.specs.Judged.{Judges};
+ghost use Rattle.groups.specs.Groups.{Grouped, Headed, is-due, others};
+use hints::Scope;
+use judge::Judged;
+use rules::Check;
+use rules::Fault;
+use table::Found;
+use table::Table;
+
+// The row is that of another irredundant clause than that of the id, and it holds the opposite of a literal of the witness and no literal of it.
+fn needs_group(
+    rows: &[[u32; 5]],
+    pool: &[i32],
+    id: u32,
+    d: usize,
+    wplus: &[u64; 32],
+    wminus: &[u64; 32],
+) -> bool
+    requires { ⌜ Readable (now rows) (now pool) × (d < length (now rows)) ⌝ }
+    ensures { λ r. ⌜ r ≡ is-due id (now (pool .entry)) (set-of (now (wplus .entry)) (now (wminus .entry))) (row-at (now (rows .entry)) d) ⌝ }
+{
+    if table::place_at(rows, d) != 0 {
+        return false;
+    }
+    if table::id_at(rows, d) == id {
+        return false;
+    }
+    let lits = table::clause_of(rows, pool, d);
+    if !clause::opposed(lits, wplus, wminus) {
+        return false;
+    }
+    !clause::shares(lits, wplus, wminus)
+}
+
+// A refusal, or the word at which to go on.
+enum Onward {
+    Go(usize),
+    Stop(Fault),
+}
+
+// 9: the header, at word `at` of ws, of the group of the clause whose id is due: its id, k, and room for k hints. Where they end.
+fn header(ws: &[i32], at: usize, from: usize, due: u32) -> Onward
+    requires { ⌜ (at ≤ length (now ws)) × (from + length (now ws) ≤ 4096) ⌝ }
+    ensures { λ r. ⌜ Headed from (now (ws .entry)) at due r ⌝ }
+{
+    let n = ws.len();
+    if at == n {
+        return Onward::Stop(Fault::Group(from + at));
+    }
+    if !literal::names(ws[at], due) {
+        return Onward::Stop(Fault::Group(from + at));
+    }
+    let next = at + 1;
+    if next == n {
+        return Onward::Stop(Fault::Group(from + next));
+    }
+    let k = ws[next];
+    if !literal::is_positive(k) {
+        return Onward::Stop(Fault::Group(from + next));
+    }
+    let hints = at + 2;
+    let count = literal::number(k);
+    if n - hints < count {
+        return Onward::Stop(Fault::Group(from + next));
+    }
+    Onward::Go(hints + count)
+}
+
+// 9, 7 and 8: the group of row d at word `at` of ws, which starts at word `from` of the frame. The allowed set is the irredundant clauses other than c, which has the id.
+fn group(
+    rows: &[[u32; 5]],
+    pool: &[i32],
+    id: u32,
+    c: &[i32],
+    d: usize,
+    wplus: &[u64; 32],
+    wminus: &[u64; 32],
+    ws: &[i32],
+    at: usize,
+    from: usize,
+) -> Onward
+    requires { ⌜ Readable (now rows) (now pool) × (all (in-range 2048) (now c) ≡ true) × (d < length (now rows)) × (at ≤ length (now ws)) × (from + length (now ws) ≤ 4096) ⌝ }
+    ensures { λ r. ⌜ Grouped (among (others id (now (pool .entry)) (now (rows .entry)))) (now (c .entry)) (set-of (now (wplus .entry)) (now (wminus .entry))) from (now (ws .entry))
+        (held (now (pool .entry)) (row-at (now (rows .entry)) d)) at r ⌝ }
+{
+    let due = table::id_at(rows, d);
+    let head = header(ws, at, from, due);
+    let Onward::Go(end) = head else {
+        return head;
+    };
+    let scope = Scope {
+        places: 1,
+        except: id,
+    };
+    let start = at + 2;
+    let lits = table::clause_of(rows, pool, d);
+    let verdict = hints::proves_with(rows, pool, scope, c, lits, wplus, wminus, &ws[start..end]);
+    let check = judge::decided(verdict, from + start, due);
+    if let Check::Failed(f) = check {
+        return Onward::Stop(f);
+    }
+    Onward::Go(end)
+}
+
+// The groups, by rising id, then 9 for words left over.
+fn all_groups(
+    rows: &[[u32; 5]],
+    pool: &[i32],
+    id: u32,
+    c: &[i32],
+    wplus: &[u64; 32],
+    wminus: &[u64; 32],
+    ws: &[i32],
+    from: usize,
+) -> Check
+    requires { ⌜ Readable (now rows) (now pool) × (all (in-range 2048) (now c) ≡ true) × (from + length (now ws) ≤ 4096) ⌝ }
+    ensures { λ r. ⌜ r ≡ paper.groups (among (others id (now (pool .entry)) (now (rows .entry)))) (now (c .entry)) (set-of (now (wplus .entry)) (now (wminus .entry)))
+        (only (needs-group (set-of (now (wplus .entry)) (now (wminus .entry)))) (others id (now (pool .entry)) (now (rows .entry)))) from (now (ws .entry)) ⌝ }
+{
+    let mut at: usize = 0;
+    let mut d: usize = 0;
+    while d < rows.len() {
+        if needs_group(rows, pool, id, d, wplus, wminus) {
+            match group(rows, pool, id, c, d, wplus, wminus, ws, at, from) {
+                Onward::Go(next) => {
+                    at = next;
+                }
+                Onward::Stop(f) => {
+                    return Check::Failed(f);
+                }
+            }
+        }
+        d += 1;
+    }
+    if at < ws.len() {
+        return Check::Failed(Fault::Group(from + at));
+    }
+    Check::Passed
+}
+
+pub fn judge_weaken(
+    rows: &[[u32; 5]],
+    pool: &[i32],
+    stack: &[u32],
+    t: Table,
+    id: u32,
+    w: &[i32],
+    ws: &[i32],
+) -> Judged
+    requires { ⌜ Fit t (now rows) (now pool) (now stack) × (length (now w) ≤ 256) × (3 + length (now w) + length (now ws) ≤ 4096) ⌝ }
+    ensures { λ r. ⌜ Judges t (now (rows .entry)) 0 id (paper.check-weaken (spelled t (now (rows .entry)) (now (pool .entry)) (now (stack .entry))) id (now (w .entry)) (now (ws .entry))) r ⌝ }
+{
+    let flaw = clause::flaw(t.vars as usize, w, 3);
+    if let Check::Failed(f) = flaw {
+        return Judged::Refused(f);
+    }
+    let Found::At(k) = judge::locate(rows, t, 0, id) else {
+        return Judged::Refused(Fault::Id(id));
+    };
+    let c = table::clause_of(rows, pool, k);
+    let marks = clause::mark(w);
+    let wplus = marks.plus;
+    let wminus = marks.minus;
+    if !clause::shares(c, &wplus, &wminus) {
+        return Judged::Refused(Fault::NoWitness);
+    }
+    if pool.len() < t.words as usize + w.len() {
+        return Judged::Refused(Fault::NoWords);
+    }
+    let n = t.count as usize;
+    let check = all_groups(&rows[..n], pool, id, c, &wplus, &wminus, ws, 3 + w.len());
+    if let Check::Failed(f) = check {
+        return Judged::Refused(f);
+    }
+    Judged::Accepted(k)
+}
