@@ -3,11 +3,9 @@ use mathlib.Core.Path.{_≡_, refl, sym, _∙_, ap}
 use mathlib.Core.Bool.{Bool, true, false, not, _&&_}
 use mathlib.Core.List.{List, [], _∷_, map}
 use Prim.Native.Nat.{ℕ, _+_, _≤_, _<_}
-use native.Mathlib.Numerals.{add-one}
 use native.Mathlib.Omega.{arith}
-use lib.IntN.{ℤ}
+use lib.IntN.{ℤ, pos}
 use lib.ListN.{length, drop, drop-of-length-le}
-use lib.Seq.{drop-cons}
 use borrow.Author.Tests.{lt-ltb, le-ltb, eq-eqb, ne-eqb}
 use Rattle.rules.specs.Lists.{any, only}
 use Rattle.rules.specs.Terms.{Literals, opposes, Held}
@@ -17,8 +15,7 @@ use Rattle.rules.specs.Answers.{groups}
 use Rattle.rules.specs.declared.Fault.the-variants.{Group}
 use Rattle.rules.specs.declared.Check.{Check}
 use Rattle.rules.specs.declared.Check.the-variants.{Passed, Failed}
-use Rattle.rules.proofs.Lists.{by-cases}
-use Rattle.words.proofs.Made.{here}
+use Rattle.rules.proofs.Lists.{from-index, by-cases}
 use Rattle.table.specs.Spelled.{Row, row-at, id-of, place-of, clause-part, held, Rising}
 use Rattle.hints.specs.Scope.{permits}
 use Rattle.hints.proofs.Scopes.{all-but}
@@ -66,16 +63,13 @@ module _ (i : ℕ) (pool : List ℤ) (W : Literals) where
   -- a loop that has passed d rows and `at` words
   module _ (A : Allowed) (c : List ℤ) (from : ℕ) (ws : List ℤ) (rows : List Row) (whole : Check) (d at : ℕ) (far : whole ≡ groups-at A c W from ws (due (drop d rows)) at) where
     module _ (h : d < length rows) where
-      row-here : drop d rows ≡ row-at rows d ∷ drop (d + 1) rows
-      row-here = rw (add-one, drop-cons rows d [])
-
       pub judged : is-due i pool W (row-at rows d) ≡ true → (r : Onward) → Grouped A c W from ws (held pool (row-at rows d)) at r → whole ≡ onward r (groups-at A c W from ws (due (drop (d + 1) rows)))
       unfolding only
-      judged t r g = let e = row-here in (rw (e, t) at far) ∙ g .says (due (drop (d + 1) rows))
+      judged t r g = let e = from-index rows d [] h in (rw (e, t) at far) ∙ g .says (due (drop (d + 1) rows))
 
       pub passed : is-due i pool W (row-at rows d) ≡ false → whole ≡ groups-at A c W from ws (due (drop (d + 1) rows)) at
       unfolding only
-      passed f = let e = row-here in rw (e, f) at far
+      passed f = let e = from-index rows d [] h in rw (e, f) at far
 
     module _ (h : length rows ≤ d) where
       none-left : whole ≡ groups A c W [] (from + at) (drop at ws)
@@ -84,7 +78,7 @@ module _ (i : ℕ) (pool : List ℤ) (W : Literals) where
 
       pub words-left : at < length ws → Failed (Group (from + at)) ≡ whole
       unfolding groups
-      words-left l = let e = here ws at l in let q = none-left in sym (rw e at q)
+      words-left l = let e = from-index ws at (pos 0) l in let q = none-left in sym (rw e at q)
 
       pub all-judged : length ws ≤ at → Passed ≡ whole
       unfolding groups

@@ -9,6 +9,7 @@ use lib.IntN.{ℤ, pos, negsuc}
 use lib.ListN.{length, getD, drop, drop-of-length-le, length-take, length-drop}
 use lib.Seq.{drop-drop}
 use borrow.Author.Tests.{lt-leb, le-leb}
+use Rattle.rules.proofs.Lists.{from-index}
 use Rattle.rules.specs.Terms.{Literals, same, Held}
 use Rattle.rules.specs.Propagation.{Allowed, proves}
 use Rattle.rules.specs.Frames.{number, target}
@@ -18,7 +19,6 @@ use Rattle.rules.specs.declared.Fault.{Fault}
 use Rattle.rules.specs.declared.Fault.the-variants.{Group}
 use Rattle.rules.specs.declared.Check.the-variants.{Passed, Failed}
 use Rattle.literal.specs.Signs.{is-pos}
-use Rattle.words.proofs.Made.{here}
 use Rattle.groups.specs.Groups.{groups-at, hints-of, hints-at, Headed, Grouped}
 use Rattle.groups.specs.declared.Onward.the-variants.{Go, Stop}
 
@@ -42,13 +42,13 @@ module _ (from : ℕ) (ws : List ℤ) (at due : ℕ) where
     wrong A c W D ds (k ∷ more) f = rw f
 
     pub wrong-id : same x (pos due) ≡ false → Headed from ws at due (Stop (Group (from + at)))
-    wrong-id f = refused (from + at) (λ A c W D ds q. let e = here ws at h in rw e (wrong A c W D ds (drop (at + 1) ws) (rw q f)))
+    wrong-id f = refused (from + at) (λ A c W D ds q. let e = from-index ws at (pos 0) h in rw e (wrong A c W D ds (drop (at + 1) ws) (rw q f)))
 
     module _ (t : same x (pos due) ≡ true) where
       pub count-missing : length ws ≤ at + 1 → Headed from ws at due (Stop (Group (from + (at + 1))))
       unfolding groups _then_ need
       count-missing l = refused (from + (at + 1)) (λ A c W D ds q.
-          let e = here ws at h in
+          let e = from-index ws at (pos 0) h in
           let m = drop-of-length-le ws l in
           let z : from + (at + 1) ≡ from + at + 1 = omega arith in
           rw (e, m, q, t, z))
@@ -61,7 +61,7 @@ module _ (from : ℕ) (ws : List ℤ) (at due : ℕ) where
         end = at + 2 + number k
 
         two : drop at ws ≡ x ∷ k ∷ drop (at + 2) ws
-        two = let z : at + 2 ≡ at + 1 + 1 = omega arith in here ws at h ∙ rw z (ap (λ more. x ∷ more) (here ws (at + 1) l))
+        two = let z : at + 2 ≡ at + 1 + 1 = omega arith in from-index ws at (pos 0) h ∙ rw z (ap (λ more. x ∷ more) (from-index ws (at + 1) (pos 0) l))
 
         counted : (A : Allowed) (c : List ℤ) (W : Literals) (D : Held) (ds : List Held) → D .id ≡ due
             → groups-at A c W from ws (D ∷ ds) at ≡ (need (fits k (length ws - (at + 2))) (Group (from + (at + 1))) then hints-at A c W from ws D ds at end)

@@ -19,6 +19,12 @@ abbrev pub answer-of : Check → Answer
 answer-of Passed = Accepted 0
 answer-of (Failed e) = Refused e
 
+abbrev pub refused-with : Fault → Table → Stepped
+refused-with e t = record { answer = Refused e; table = t }
+
+abbrev pub accepted-with : Table → Stepped
+accepted-with t = record { answer = Accepted 0; table = t }
+
 pub record Same (t : Table) (rows : List Row) (pool : List ℤ) (stack : List ℕ) (t′ : Table) (rows′ : List Row) (pool′ : List ℤ) (stack′ : List ℕ) : Type 0 where
   pub table : t′ ≡ t
   pub same-rows : rows′ ≡ rows

@@ -1,20 +1,39 @@
 // One frame: judged by &, and applied by &mut only after its acceptance.
 ghost use mathlib.Core.Path.{_≡_};
-ghost use Prim.Native.Nat.{_≤_};
+ghost use Prim.Native.Nat.{_+_, _≤_};
 ghost use lib.ListN.{length};
-ghost use Rattle.rules.specs.Frames.{ADD, LEARN, FORGET, PROMOTE, DROP, RESTORE};
+ghost use Rattle.rules.specs.Frames.{ADD, LEARN, FORGET, PROMOTE, DROP, WEAKEN, RESTORE};
 ghost use Rattle.table.specs.Spelled.{Fit};
-ghost use Rattle.steps.specs.Applied.{Applied};
+ghost use Rattle.steps.specs.Applied.{Applied, refused-with, accepted-with};
 
 use judge::Judged;
 use rules::Answer;
 use rules::Check;
+use rules::Fault;
 use table::Table;
 
 // The answer, and the numbers beside the tables after it.
 pub struct Stepped {
     pub answer: Answer,
     pub table: Table,
+}
+
+fn refused(fault: Fault, table: Table) -> Stepped
+    ensures { λ r. ⌜ r ≡ refused-with fault table ⌝ }
+{
+    Stepped {
+        answer: Answer::Refused(fault),
+        table,
+    }
+}
+
+fn accepted(table: Table) -> Stepped
+    ensures { λ r. ⌜ r ≡ accepted-with table ⌝ }
+{
+    Stepped {
+        answer: Answer::Accepted(0),
+        table,
+    }
 }
 
 // ---- the operations that write: judge, then apply
@@ -25,16 +44,9 @@ fn add(rows: &mut [[u32; 5]], pool: &mut [i32], stack: &[u32], t: Table, id: u32
 {
     let check = judge::judge_add(rows, pool, stack, t, id, c);
     if let Check::Failed(fault) = check {
-        return Stepped {
-            answer: Answer::Refused(fault),
-            table: t,
-        };
+        return refused(fault, t);
     }
-    let table = table::append(rows, pool, t, 0, id, c);
-    Stepped {
-        answer: Answer::Accepted(0),
-        table,
-    }
+    accepted(table::append(rows, pool, t, 0, id, c))
 }
 
 fn learn(rows: &mut [[u32; 5]], pool: &mut [i32], stack: &[u32], t: Table, id: u32, c: &[i32], hints: &[i32]) -> Stepped
@@ -43,16 +55,9 @@ fn learn(rows: &mut [[u32; 5]], pool: &mut [i32], stack: &[u32], t: Table, id: u
 {
     let check = judge::judge_learn(rows, pool, stack, t, id, c, hints);
     if let Check::Failed(fault) = check {
-        return Stepped {
-            answer: Answer::Refused(fault),
-            table: t,
-        };
+        return refused(fault, t);
     }
-    let table = table::append(rows, pool, t, 1, id, c);
-    Stepped {
-        answer: Answer::Accepted(0),
-        table,
-    }
+    accepted(table::append(rows, pool, t, 1, id, c))
 }
 
 fn forget(rows: &mut [[u32; 5]], pool: &[i32], stack: &[u32], t: Table, id: u32) -> Stepped
@@ -61,16 +66,51 @@ fn forget(rows: &mut [[u32; 5]], pool: &[i32], stack: &[u32], t: Table, id: u32)
 {
     let judged = judge::judge_learned(rows, pool, stack, t, id);
     match judged {
-        Judged::Refused(fault) => Stepped {
-            answer: Answer::Refused(fault),
-            table: t,
-        },
-        Judged::Accepted(k) => {
-            let table = table::remove(rows, t, k);
-            Stepped {
-                answer: Answer::Accepted(0),
-                table,
-            }
-        }
+        Judged::Refused(fault) => refused(fault, t),
+        Judged::Accepted(k) => accepted(table::remove(rows, t, k)),
+    }
+}
+
+fn promote(rows: &mut [[u32; 5]], pool: &[i32], stack: &[u32], t: Table, id: u32) -> Stepped
+    requires { ⌜ Fit t (now rows) (now pool) (now stack) ⌝ }
+    ensures { λ r. ⌜ Applied t (now (rows .entry)) (now (pool .entry)) (now (stack .entry)) (PROMOTE id) r (now (rows .exit)) (now (pool .entry)) (now (stack .entry)) ⌝ }
+{
+    let judged = judge::judge_learned(rows, pool, stack, t, id);
+    match judged {
+        Judged::Refused(fault) => refused(fault, t),
+        Judged::Accepted(k) => accepted(table::promote(rows, t, k)),
+    }
+}
+
+fn drop_clause(rows: &mut [[u32; 5]], pool: &[i32], stack: &[u32], t: Table, id: u32, hints: &[i32]) -> Stepped
+    requires { ⌜ Fit t (now rows) (now pool) (now stack) × (length (now hints) ≤ 4096) ⌝ }
+    ensures { λ r. ⌜ Applied t (now (rows .entry)) (now (pool .entry)) (now (stack .entry)) (DROP id (now (hints .entry))) r (now (rows .exit)) (now (pool .entry)) (now (stack .entry)) ⌝ }
+{
+    let judged = judge::judge_drop(rows, pool, stack, t, id, hints);
+    match judged {
+        Judged::Refused(fault) => refused(fault, t),
+        Judged::Accepted(k) => accepted(table::remove(rows, t, k)),
+    }
+}
+
+fn weaken(rows: &mut [[u32; 5]], pool: &mut [i32], stack: &mut [u32], t: Table, id: u32, w: &[i32], ws: &[i32]) -> Stepped
+    requires { ⌜ Fit t (now rows) (now pool) (now stack) × (length (now w) ≤ 256) × (3 + length (now w) + length (now ws) ≤ 4096) ⌝ }
+    ensures { λ r. ⌜ Applied t (now (rows .entry)) (now (pool .entry)) (now (stack .entry)) (WEAKEN id (now (w .entry)) (now (ws .entry))) r (now (rows .exit)) (now (pool .exit)) (now (stack .exit)) ⌝ }
+{
+    let judged = groups::judge_weaken(rows, pool, stack, t, id, w, ws);
+    match judged {
+        Judged::Refused(fault) => refused(fault, t),
+        Judged::Accepted(k) => accepted(table::weaken(rows, pool, stack, t, k, w)),
+    }
+}
+
+fn restore(rows: &mut [[u32; 5]], pool: &[i32], stack: &mut [u32], t: Table, id: u32) -> Stepped
+    requires { ⌜ Fit t (now rows) (now pool) (now stack) ⌝ }
+    ensures { λ r. ⌜ Applied t (now (rows .entry)) (now (pool .entry)) (now (stack .entry)) (RESTORE id) r (now (rows .exit)) (now (pool .entry)) (now (stack .exit)) ⌝ }
+{
+    let judged = judge::judge_restore(rows, pool, stack, t, id);
+    match judged {
+        Judged::Refused(fault) => refused(fault, t),
+        Judged::Accepted(k) => accepted(table::restore(rows, stack, t, k)),
     }
 }

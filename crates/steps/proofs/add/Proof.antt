@@ -25,7 +25,7 @@ module _ (x : tie.After-enum-told) where
   abbrev j : tie.After-judge-add
   j = x .before .before
 
-  passed : x .before .before .judge-add .result ≡ Passed
+  passed : j .judge-add .result ≡ Passed
   passed = x .enum-told .given .1
 
   new : NewClause (s j .args .t) (s j .args .rows .now) (s j .args .pool .now) (s j .args .id) (s j .args .c .now)
@@ -37,6 +37,9 @@ judge-add-requires c κs = search needs
 enum-known-check : tie.Need-enum-known-check
 enum-known-check c = search needs
 
+refused-requires : tie.Need-refused-requires
+refused-requires c κs = search needs
+
 same-length : tie.Need-same-length
 same-length c = search needs
 
@@ -44,13 +47,16 @@ same-length-2 : tie.Need-same-length-2
 same-length-2 c = search needs
 
 returns : tie.Need-returns
-returns c = refused (frame (c .before .before .before)) _ (judged (c .before .before .before) ∙ c .before .check .given .1)
+returns c = rw (c .refused .ensures) (refused (frame (c .before .before .before .before)) _ (judged (c .before .before .before .before) ∙ c .before .before .check .given .1))
 
 enum-told : tie.Need-enum-told
 enum-told c = search needs
 
 append-requires : tie.Need-append-requires
 append-requires c κs = let x = c .before .before in ((s (j x) .args .stack .now, s (j x) .pre .0), new x .entry, new x .words)
+
+accepted-requires : tie.Need-accepted-requires
+accepted-requires c κs = search needs
 
 same-length-3 : tie.Need-same-length-3
 same-length-3 c = search needs
@@ -59,7 +65,7 @@ same-length-4 : tie.Need-same-length-4
 same-length-4 c = search needs
 
 returns-2 : tie.Need-returns-2
-returns-2 c = let x = c .before .before .before .before .before in accepted (frame (j x)) (judged (j x) ∙ passed x) (c .before .before .append .ensures .0 refl (s (j x) .args .stack .now) (s (j x) .pre .0) (new x .new) (new x .clause))
+returns-2 c = let x = c .before .before .before .before .before .before in rw (c .accepted .ensures) (accepted (frame (j x)) (judged (j x) ∙ passed x) (c .before .before .before .append .ensures .0 refl (s (j x) .args .stack .now) (s (j x) .pre .0) (new x .new) (new x .clause)))
 
 pub add-spec : {M : Type 1} → statement M
 add-spec =
@@ -67,11 +73,13 @@ add-spec =
     (tie.spec
     judge-add-requires
     enum-known-check
+    refused-requires
     same-length
     same-length-2
     returns
     enum-told
     append-requires
+    accepted-requires
     same-length-3
     same-length-4
     returns-2)
