@@ -4,12 +4,13 @@ use mathlib.Core.List.{List}
 use Prim.Native.Nat.{ℕ}
 use lib.IntN.{ℤ}
 use Rattle.rules.specs.Frames.{Frame}
-use Rattle.rules.specs.Answers.{check}
+use Rattle.rules.specs.Answers.{check, Handed, untouched, mended, settled}
 use Rattle.rules.specs.declared.Fault.{Fault}
 use Rattle.rules.specs.declared.Check.{Check}
 use Rattle.rules.specs.declared.Check.the-variants.{Passed, Failed}
 use Rattle.rules.specs.declared.Answer.{Answer}
 use Rattle.rules.specs.declared.Answer.the-variants.{Accepted, Refused}
+use Rattle.words.specs.Words.{assigned}
 use Rattle.table.specs.Spelled.{Row, spelled, Moved}
 use Rattle.table.specs.declared.Table.{Table}
 use Rattle.steps.specs.declared.Stepped.{Stepped}
@@ -35,3 +36,13 @@ pub record Applied (t : Table) (rows : List Row) (pool : List ℤ) (stack : List
   pub answered : r .answer ≡ answer-of (check (spelled t rows pool stack) f)
   pub moved : check (spelled t rows pool stack) f ≡ Passed → Moved t rows pool stack (r .table) rows′ pool′ stack′ f
   pub left : (e : Fault) → check (spelled t rows pool stack) f ≡ Failed e → Same t rows pool stack (r .table) rows′ pool′ stack′
+
+-- the model buffer, of 32 words: the mended assignment's after an accepted SAT, else as it was
+abbrev pub Wrote : Handed → List ℕ → List ℕ → Type 0
+Wrote untouched model model′ = model′ ≡ model
+Wrote (mended α β) model model′ = assigned model′ ≡ β
+
+-- an answer that writes no table
+pub record Answered (t : Table) (rows : List Row) (pool : List ℤ) (stack : List ℕ) (f : Frame) (r : Answer) (model model′ : List ℕ) : Type 0 where
+  pub answered : r ≡ settled (spelled t rows pool stack) f (check (spelled t rows pool stack) f) .answer
+  pub handed : Wrote (settled (spelled t rows pool stack) f (check (spelled t rows pool stack) f) .handed) model model′
