@@ -1,17 +1,18 @@
 -- A frame, judged and applied: the paper's answer; where it passes, the tables spell the paper's next state; where it does not, they are as they were.
 use mathlib.Core.Path.{_≡_}
+use mathlib.Core.Bool.{Bool, true, false}
 use mathlib.Core.List.{List}
 use Prim.Native.Nat.{ℕ}
 use lib.IntN.{ℤ}
-use Rattle.rules.specs.Frames.{Frame}
-use Rattle.rules.specs.Answers.{check, Handed, untouched, mended, settled}
+use Rattle.rules.specs.Frames.{Frame, ADD, LEARN, FORGET, PROMOTE, DROP, WEAKEN, RESTORE, SAT, UNSAT, Parsed, malformed, framed, parse}
+use Rattle.rules.specs.Answers.{check, Handed, untouched, mended, settled, outcome}
 use Rattle.rules.specs.declared.Fault.{Fault}
 use Rattle.rules.specs.declared.Check.{Check}
 use Rattle.rules.specs.declared.Check.the-variants.{Passed, Failed}
 use Rattle.rules.specs.declared.Answer.{Answer}
 use Rattle.rules.specs.declared.Answer.the-variants.{Accepted, Refused}
 use Rattle.words.specs.Words.{assigned}
-use Rattle.table.specs.Spelled.{Row, spelled, Moved}
+use Rattle.table.specs.Spelled.{Row, spelled, Fit, Moved}
 use Rattle.table.specs.declared.Table.{Table}
 use Rattle.steps.specs.declared.Stepped.{Stepped}
 
@@ -46,3 +47,25 @@ Wrote (mended α β) model model′ = assigned model′ ≡ β
 pub record Answered (t : Table) (rows : List Row) (pool : List ℤ) (stack : List ℕ) (f : Frame) (r : Answer) (model model′ : List ℕ) : Type 0 where
   pub answered : r ≡ settled (spelled t rows pool stack) f (check (spelled t rows pool stack) f) .answer
   pub handed : Wrote (settled (spelled t rows pool stack) f (check (spelled t rows pool stack) f) .handed) model model′
+
+-- "SAT and UNSAT never write the tables"
+abbrev pub asks : Parsed → Bool
+asks malformed = false
+asks (framed (ADD i c)) = false
+asks (framed (LEARN i c hints)) = false
+asks (framed (FORGET i)) = false
+asks (framed (PROMOTE i)) = false
+asks (framed (DROP i hints)) = false
+asks (framed (WEAKEN i w ws)) = false
+asks (framed (RESTORE i)) = false
+asks (framed (SAT assumed vs)) = true
+asks (framed (UNSAT assumed hints)) = true
+
+-- a frame's words: the paper's answer, the state that the tables spell after it, and the model buffer; a refusal, SAT and UNSAT leave every word of the tables
+pub record Steps (t : Table) (rows : List Row) (pool : List ℤ) (stack : List ℕ) (ws : List ℤ) (r : Stepped) (rows′ : List Row) (pool′ : List ℤ) (stack′ : List ℕ) (model model′ : List ℕ) : Type 0 where
+  pub answered : r .answer ≡ outcome (spelled t rows pool stack) ws .answer
+  pub fit : Fit (r .table) rows′ pool′ stack′
+  pub state : spelled (r .table) rows′ pool′ stack′ ≡ outcome (spelled t rows pool stack) ws .state
+  pub handed : Wrote (outcome (spelled t rows pool stack) ws .handed) model model′
+  pub left : (e : Fault) → r .answer ≡ Refused e → Same t rows pool stack (r .table) rows′ pool′ stack′
+  pub asked : asks (parse ws) ≡ true → Same t rows pool stack (r .table) rows′ pool′ stack′

@@ -5,8 +5,9 @@ ghost use lib.ListN.{length};
 ghost use Rattle.rules.specs.Frames.{ADD, LEARN, FORGET, PROMOTE, DROP, WEAKEN, RESTORE, SAT, UNSAT};
 ghost use Rattle.rules.specs.Answers.{check};
 ghost use Rattle.table.specs.Spelled.{Fit, spelled};
-ghost use Rattle.steps.specs.Applied.{Answered, Applied, accepted-with, answer-of, refused-with};
+ghost use Rattle.steps.specs.Applied.{Answered, Applied, Steps, accepted-with, answer-of, refused-with};
 
+use frame::Head;
 use judge::Judged;
 use rules::Answer;
 use rules::Check;
@@ -146,4 +147,40 @@ fn unsat(rows: &[[u32; 5]], pool: &[i32], stack: &[u32], t: Table, assumed: &[i3
         return Answer::Refused(fault);
     }
     Answer::Accepted(0)
+}
+
+// ---- the dispatcher
+
+// One frame of any words, by the head that it has.
+pub fn step(rows: &mut [[u32; 5]], pool: &mut [i32], stack: &mut [u32], t: Table, frame: &[i32], model: &mut [u64; 32]) -> Stepped
+    requires { ⌜ Fit t (now rows) (now pool) (now stack) ⌝ }
+    ensures { λ r. ⌜ Steps t (now (rows .entry)) (now (pool .entry)) (now (stack .entry)) (now (frame .entry)) r (now (rows .exit)) (now (pool .exit)) (now (stack .exit)) (now (model .entry)) (now (model .exit)) ⌝ }
+{
+    let head = frame::parse(frame);
+    match head {
+        Head::Malformed => refused(Fault::Malformed, t),
+        Head::Add(id) => add(rows, pool, stack, t, id, &frame[2..]),
+        Head::Learn(id, n) => {
+            let end = 3 + n;
+            learn(rows, pool, stack, t, id, &frame[3..end], &frame[end..])
+        }
+        Head::Forget(id) => forget(rows, pool, stack, t, id),
+        Head::Promote(id) => promote(rows, pool, stack, t, id),
+        Head::Drop(id) => drop_clause(rows, pool, stack, t, id, &frame[2..]),
+        Head::Weaken(id, n) => {
+            let end = 3 + n;
+            weaken(rows, pool, stack, t, id, &frame[3..end], &frame[end..])
+        }
+        Head::Restore(id) => restore(rows, pool, stack, t, id),
+        Head::Sat(n) => {
+            let end = 2 + n;
+            let answer = sat(rows, pool, stack, t, &frame[2..end], &frame[end..], model);
+            Stepped { answer, table: t }
+        }
+        Head::Unsat(n) => {
+            let end = 2 + n;
+            let answer = unsat(rows, pool, stack, t, &frame[2..end], &frame[end..]);
+            Stepped { answer, table: t }
+        }
+    }
 }
