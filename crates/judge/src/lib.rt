@@ -89,10 +89,12 @@ fn room(rows: &[[u32; 5]], pool: &[i32], t: Table, n: usize) -> Check
     ensures { λ r. ⌜ ((stack : List ℕ) → Fit t (now (rows .entry)) (now (pool .entry)) stack
         → r ≡ (free-entry (spelled t (now (rows .entry)) (now (pool .entry)) stack) then free-words (spelled t (now (rows .entry)) (now (pool .entry)) stack) n)) ⌝ }
 {
-    if rows.len() <= t.count as usize {
+    let count = t.count as usize;
+    let words = t.words as usize + n;
+    if rows.len() <= count {
         return Check::Failed(Fault::NoEntry);
     }
-    if pool.len() < t.words as usize + n {
+    if pool.len() < words {
         return Check::Failed(Fault::NoWords);
     }
     Check::Passed
