@@ -22,7 +22,7 @@ module _ (t : Table) (rows : List Row) (inside : t .count ≤ length rows) where
   pub count-rows : length (held-rows t rows) ≡ t .count
   count-rows = length-take-le (t .count) rows inside
 
-  pub row-same : (k : ℕ) → k < t .count → row-at (held-rows t rows) k ≡ row-at rows k
+  row-same : (k : ℕ) → k < t .count → row-at (held-rows t rows) k ≡ row-at rows k
   row-same k h = getD-take (t .count) rows k [] h
 
   -- the row of an id: its place is the one that is asked for, or it is not

@@ -1,6 +1,5 @@
 -- The stack's ids that are held: each is that of a stacked clause, and those behind an id are the ids of the records above its own.
 use mathlib.Core.Path.{_≡_, refl, sym, _∙_, ap, subst}
-use mathlib.Core.Bool.{true}
 use mathlib.Core.List.{List, [], _∷_, _++_, map, reverse, reverse-append}
 use Prim.Native.Nat.{ℕ, _+_, _-_, _<_}
 use native.Mathlib.Omega.{arith}
@@ -11,7 +10,7 @@ use borrow.Author.Tests.{eq-eqb, ne-eqb}
 use Rattle.rules.specs.Terms.{Held, has, fetch}
 use Rattle.rules.specs.Frames.{above}
 use Rattle.rules.proofs.Places.{fetch-id}
-use Rattle.table.specs.Facts.{All, none, both, Pairs}
+use Rattle.table.specs.Facts.{All, both, Pairs}
 use Rattle.table.specs.Spelled.{Row, clauses, held-rows, from-top, spelled, Fit}
 use Rattle.table.specs.declared.Table.{Table}
 use Rattle.table.proofs.Facts.{all-more, pairs-before}

@@ -3,14 +3,17 @@ ghost use mathlib.Core.Path.{_≡_};
 ghost use mathlib.Core.Bool.{true};
 ghost use mathlib.Core.List.{List};
 ghost use Prim.Native.Nat.{ℕ, _≤_};
+ghost use lib.Dec.{ltb};
 ghost use lib.ListN.{length};
 ghost use Rattle.rules.specs.Lists.{all};
 ghost use Rattle.rules.specs.Terms.{in-range};
-ghost use Rattle.rules.specs.Answers.{_then_, free-entry, free-words};
+ghost use Rattle.rules.specs.Answers.{_then_, need, unseen, free-entry, free-words};
 ghost use Rattle.rules.specs.Answers as paper;
+ghost use Rattle.rules.specs.declared.Fault.the-variants.{Id};
 ghost use Rattle.rules.proofs.Propagation.{Stopped};
 ghost use Rattle.words.specs.Words.{assigned};
-ghost use Rattle.table.specs.Spelled.{Fit, Rising, held-rows, spelled};
+ghost use Rattle.table.specs.Spelled.{Fit, Readable, Rising, held-rows, spelled};
+ghost use Rattle.walk.specs.Records.{Stacked, records};
 ghost use Rattle.judge.specs.Judged.{Located-in, Judges, Offers, check-offered};
 use hints::Scope;
 use rules::Check;
@@ -42,6 +45,32 @@ pub fn locate(rows: &[[u32; 5]], t: Table, place: u32, id: u32) -> Found
     Found::Nothing
 }
 
+// 3, then 4: a clause under a new id, where `at` is the index of its first literal.
+fn new_clause(t: Table, id: u32, c: &[i32], at: usize) -> Check
+    requires { ⌜ (t .vars ≤ 2048) × (at ≤ 4096) × (length (now c) ≤ 4096) ⌝ }
+    ensures { λ r. ⌜ r ≡ (paper.flaw (t .vars) unseen at (now (c .entry)) then need (ltb (t .highest) id) (Id id)) ⌝ }
+{
+    let flaw = clause::flaw(t.vars as usize, c, at);
+    if let Check::Failed(f) = flaw {
+        return Check::Failed(f);
+    }
+    if id <= t.highest {
+        return Check::Failed(Fault::Id(id));
+    }
+    Check::Passed
+}
+
+// 5: the topmost of the records, whose ids `stack` has from the bottom, against which c is not clean.
+fn cleanly(rows: &[[u32; 5]], pool: &[i32], stack: &[u32], c: &[i32]) -> Check
+    requires { ⌜ Readable (now rows) (now pool) × Stacked (now pool) (now rows) (now stack) × (all (in-range 2048) (now c) ≡ true) ⌝ }
+    ensures { λ r. ⌜ r ≡ paper.cleanly (now (c .entry)) (records (now (pool .entry)) (now (rows .entry)) (now (stack .entry))) ⌝ }
+{
+    let marks = clause::mark(c);
+    let plus = marks.plus;
+    let minus = marks.minus;
+    walk::cleanly(rows, pool, stack, &plus, &minus)
+}
+
 // 7 and 8: `at` is the index of the first hint, `d` the detail of 8.
 pub fn decided(verdict: Verdict, at: usize, d: u32) -> Check
     requires { ⌜ (at ≤ 4096) × Stopped 4096 verdict ⌝ }
@@ -60,10 +89,12 @@ fn room(rows: &[[u32; 5]], pool: &[i32], t: Table, n: usize) -> Check
     ensures { λ r. ⌜ ((stack : List ℕ) → Fit t (now (rows .entry)) (now (pool .entry)) stack
         → r ≡ (free-entry (spelled t (now (rows .entry)) (now (pool .entry)) stack) then free-words (spelled t (now (rows .entry)) (now (pool .entry)) stack) n)) ⌝ }
 {
-    if rows.len() <= t.count as usize {
+    let count = t.count as usize;
+    let words = t.words as usize + n;
+    if rows.len() <= count {
         return Check::Failed(Fault::NoEntry);
     }
-    if pool.len() < t.words as usize + n {
+    if pool.len() < words {
         return Check::Failed(Fault::NoWords);
     }
     Check::Passed
@@ -82,19 +113,13 @@ pub fn judge_add(
     requires { ⌜ Fit t (now rows) (now pool) (now stack) × (length (now c) ≤ 256) ⌝ }
     ensures { λ r. ⌜ r ≡ paper.check-add (spelled t (now (rows .entry)) (now (pool .entry)) (now (stack .entry))) id (now (c .entry)) ⌝ }
 {
-    let flaw = clause::flaw(t.vars as usize, c, 2);
-    if let Check::Failed(f) = flaw {
+    let sound = new_clause(t, id, c, 2);
+    if let Check::Failed(f) = sound {
         return Check::Failed(f);
-    }
-    if id <= t.highest {
-        return Check::Failed(Fault::Id(id));
     }
     let n = t.count as usize;
     let depth = t.depth as usize;
-    let marks = clause::mark(c);
-    let plus = marks.plus;
-    let minus = marks.minus;
-    let clean = walk::cleanly(&rows[..n], pool, &stack[..depth], &plus, &minus);
+    let clean = cleanly(&rows[..n], pool, &stack[..depth], c);
     if let Check::Failed(f) = clean {
         return Check::Failed(f);
     }
@@ -113,12 +138,9 @@ pub fn judge_learn(
     requires { ⌜ Fit t (now rows) (now pool) (now stack) × (length (now c) ≤ 256) × (length (now hints) ≤ 4096) ⌝ }
     ensures { λ r. ⌜ r ≡ paper.check-learn (spelled t (now (rows .entry)) (now (pool .entry)) (now (stack .entry))) id (now (c .entry)) (now (hints .entry)) ⌝ }
 {
-    let flaw = clause::flaw(t.vars as usize, c, 3);
-    if let Check::Failed(f) = flaw {
+    let sound = new_clause(t, id, c, 3);
+    if let Check::Failed(f) = sound {
         return Check::Failed(f);
-    }
-    if id <= t.highest {
-        return Check::Failed(Fault::Id(id));
     }
     let free = room(rows, pool, t, c.len());
     if let Check::Failed(f) = free {
@@ -181,11 +203,9 @@ pub fn judge_restore(rows: &[[u32; 5]], pool: &[i32], stack: &[u32], t: Table, i
     };
     let n = t.count as usize;
     let depth = t.depth as usize;
-    let marks = clause::mark(table::clause_of(rows, pool, k));
-    let plus = marks.plus;
-    let minus = marks.minus;
     let above = slices::position(stack, depth, id) + 1;
-    let clean = walk::cleanly(&rows[..n], pool, &stack[above..depth], &plus, &minus);
+    let c = table::clause_of(rows, pool, k);
+    let clean = cleanly(&rows[..n], pool, &stack[above..depth], c);
     if let Check::Failed(f) = clean {
         return Judged::Refused(f);
     }
@@ -216,10 +236,7 @@ fn judge_offered(
     }
     let n = t.count as usize;
     let depth = t.depth as usize;
-    let marks = clause::mark(assumed);
-    let plus = marks.plus;
-    let minus = marks.minus;
-    let clean = walk::cleanly(&rows[..n], pool, &stack[..depth], &plus, &minus);
+    let clean = cleanly(&rows[..n], pool, &stack[..depth], assumed);
     if let Check::Failed(f) = clean {
         return Check::Failed(f);
     }

@@ -21,7 +21,7 @@ use Rattle.judge.proofs.judge_drop.Tie as tie
 
 -- what the search said
 located : (x : tie.After-locate) {r : Found} → x .locate .result ≡ r → let a = x .before .before .args in Located-in (a .t) (a .rows .now) 0 (a .id) r
-located x e = let a = x .before .before .args in subst (λ r. Located-in (a .t) (a .rows .now) 0 (a .id) r) e (x .locate .ensures)
+located x e = let a = x .before .before .args in subst (Located-in (a .t) (a .rows .now) 0 (a .id)) e (x .locate .ensures)
 
 -- past 4: the row
 module _ (x : tie.After-known-told) where

@@ -1,10 +1,9 @@
 -- Each return cites the checks before it.
 use mathlib.Core.Path.{_≡_, sym, _∙_}
 use borrow.Author.Needs.{needs}
-use Rattle.rules.specs.Answers.{assumed-true, cleanly}
+use Rattle.rules.specs.Answers.{assumed-true}
 use Rattle.rules.specs.declared.Check.the-variants.{Passed}
 use Rattle.words.specs.Words.{assigned}
-use Rattle.table.specs.Spelled.{spelled}
 use Rattle.table.proofs.Readers.{readable, count-rows}
 use Rattle.judge.proofs.Order.{goes-on, stops}
 use Rattle.judge.proofs.Stack.{depth-is, stacked}
@@ -18,14 +17,6 @@ module _ (x : tie.After-enum-told) where
 
   hold : assumed-true (assigned (s .args .offered .now)) 2 (s .args .assumed .now) ≡ Passed
   hold = sym (x .before .before .assumed-true .ensures) ∙ x .enum-told .given .1
-
--- 5
-module _ (x : tie.After-cleanly) where
-  abbrev e : tie.After-enum-told
-  e = x .before .before .before .before .before .before .before .before .before .before
-
-  clean-is : x .cleanly .result ≡ cleanly (s e .args .assumed .now) (spelled (s e .args .t) (s e .args .rows .now) (s e .args .pool .now) (s e .args .stack .now) .stack)
-  clean-is = x .cleanly .ensures _ (x .before .before .before .before .before .before .before .mark .ensures)
 
 assumed-true-requires : tie.Need-assumed-true-requires
 assumed-true-requires c κs = search needs
@@ -45,35 +36,32 @@ cast-n c = search needs
 cast-depth : tie.Need-cast-depth
 cast-depth c = search needs
 
-mark-requires : tie.Need-mark-requires
-mark-requires c κs = search needs
-
 slice-aggregate-cleanly : tie.Need-slice-aggregate-cleanly
-slice-aggregate-cleanly c = sym (count-rows (s (c .before .before .before .before .before .before) .pre .0))
+slice-aggregate-cleanly c = sym (count-rows (s (c .before .before .before) .pre .0))
 
 slice-aggregate-cleanly-2 : tie.Need-slice-aggregate-cleanly-2
-slice-aggregate-cleanly-2 c = sym (depth-is (s (c .before .before .before .before .before .before .before) .pre .0))
+slice-aggregate-cleanly-2 c = sym (depth-is (s (c .before .before .before .before) .pre .0))
 
 cleanly-requires : tie.Need-cleanly-requires
-cleanly-requires c κs = let f = s (c .before .before .before .before .before .before .before .before .before) .pre .0 in (readable f, stacked f)
+cleanly-requires c κs = let s = s (c .before .before .before .before) in (readable (s .pre .0), stacked (s .pre .0), s .pre .2)
 
 enum-known-clean : tie.Need-enum-known-clean
 enum-known-clean c = search needs
 
 returns-2 : tie.Need-returns-2
-returns-2 c = let x = c .before .before .before in sym (goes-on (hold (e x)) _ ∙ stops (sym (clean-is x) ∙ c .before .clean .given .1) _)
+returns-2 c = let x = c .before .before .before in sym (goes-on (hold (x .before .before .before .before .before)) _ ∙ stops (sym (x .cleanly .ensures) ∙ c .before .clean .given .1) _)
 
 enum-told-2 : tie.Need-enum-told-2
 enum-told-2 c = search needs
 
 slice-aggregate-satisfied : tie.Need-slice-aggregate-satisfied
-slice-aggregate-satisfied c = sym (count-rows (s (e (c .before .before .before)) .pre .0))
+slice-aggregate-satisfied c = sym (count-rows (s (c .before .before .before .before .before .before .before .before) .pre .0))
 
 satisfied-requires : tie.Need-satisfied-requires
-satisfied-requires c κs = readable (s (e (c .before .before .before)) .pre .0)
+satisfied-requires c κs = readable (s (c .before .before .before .before .before .before .before .before) .pre .0)
 
 returns-3 : tie.Need-returns-3
-returns-3 c = let x = c .before .before .before .before in c .satisfied .ensures ∙ sym (goes-on (hold (e x)) _ ∙ goes-on (sym (clean-is x) ∙ c .before .before .enum-told2 .given .1) _)
+returns-3 c = let x = c .before .before .before .before in c .satisfied .ensures ∙ sym (goes-on (hold (x .before .before .before .before .before)) _ ∙ goes-on (sym (x .cleanly .ensures) ∙ c .before .before .enum-told2 .given .1) _)
 
 pub judge-offered-spec : {M : Type 1} → statement M
 judge-offered-spec =
@@ -85,7 +73,6 @@ judge-offered-spec =
     enum-told
     cast-n
     cast-depth
-    mark-requires
     slice-aggregate-cleanly
     slice-aggregate-cleanly-2
     cleanly-requires

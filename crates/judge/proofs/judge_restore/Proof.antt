@@ -22,7 +22,7 @@ use Rattle.judge.proofs.judge_restore.Tie as tie
 
 -- what the search said
 located : (x : tie.After-locate) {r : Found} → x .locate .result ≡ r → let a = x .before .before .args in Located-in (a .t) (a .rows .now) 2 (a .id) r
-located x e = let a = x .before .before .args in subst (λ r. Located-in (a .t) (a .rows .now) 2 (a .id) r) e (x .locate .ensures)
+located x e = let a = x .before .before .args in subst (Located-in (a .t) (a .rows .now) 2 (a .id)) e (x .locate .ensures)
 
 -- past 4: the row
 module _ (x : tie.After-known-told) where
@@ -38,32 +38,38 @@ module _ (x : tie.After-known-told) where
   on-stack : Among (s .args .stack .now) (s .args .t .depth) (s .args .id)
   on-stack = subst (Among (s .args .stack .now) (s .args .t .depth)) (row .named) (row-stacked (s .pre) k (row .below) (row .placed))
 
+-- its literals
+module _ (x : tie.After-clause-of) where
+  abbrev w : tie.After-known-told
+  w = x .before .before .before .before
+
+  clause-ranged : all (in-range 2048) (x .clause-of .result .now) ≡ true
+  clause-ranged = subst (λ c. all (in-range 2048) c ≡ true) (sym (x .clause-of .ensures)) (ranged (s w .pre) (row w))
+
 -- 5
 module _ (x : tie.After-cleanly) where
+  abbrev v : tie.After-clause-of
+  v = x .before .before .before
+
   abbrev at : tie.After-position
-  at = x .before .before .before .before .before
-
-  abbrev marked : tie.After-mark
-  marked = at .before .before .before
-
-  abbrev w : tie.After-known-told
-  w = marked .before .before .before .before
+  at = v .before
 
   abbrev a : tie.Start
-  a = s w
+  a = s (w v)
 
   abbrev state : State
   state = spelled (a .args .t) (a .args .rows .now) (a .args .pool .now) (a .args .stack .now)
 
   stacked-it : has (clauses 2 (a .args .pool .now) (held-rows (a .args .t) (a .args .rows .now))) (a .args .id) ≡ true
-  stacked-it = has-it (a .pre) (row w)
+  stacked-it = has-it (a .pre) (row (w v))
 
   left : check-restore state (a .args .id) ≡ x .cleanly .result
   left =
       goes-on (met (listed-has (a .pre .core .listed) (a .args .id) ∙ stacked-it) _) _
-      ∙ sym (x .cleanly .ensures _ (marked .mark .ensures)
-      ∙ ap₂ cleanly (marked .before .clause-of .ensures ∙ ap (λ h. h .lits) (sym (listed-fetch (a .pre .core .listed) (a .args .id) stacked-it ∙ fetches-it (a .pre) (row w))))
-      (sym (above-is (a .pre) (at .position .result) (at .position .ensures .0)) ∙ ap (above (state .stack)) (at .position .ensures .1)))
+      ∙ ap₂ cleanly
+      (ap (λ h. h .lits) (listed-fetch (a .pre .core .listed) (a .args .id) stacked-it ∙ fetches-it (a .pre) (row (w v))) ∙ sym (v .clause-of .ensures))
+      (ap (above (state .stack)) (sym (at .position .ensures .1)) ∙ above-is (a .pre) (at .position .result) (at .position .ensures .0))
+      ∙ sym (x .cleanly .ensures)
 
 locate-requires : tie.Need-locate-requires
 locate-requires c κs = search needs
@@ -83,20 +89,17 @@ cast-n c = search needs
 cast-depth : tie.Need-cast-depth
 cast-depth c = search needs
 
-clause-of-requires : tie.Need-clause-of-requires
-clause-of-requires c κs = let x = c .before .before in (below-rows (s x .pre) (row x), row-inside (s x .pre) (k x) (row x .below))
-
-mark-requires : tie.Need-mark-requires
-mark-requires c κs = let x = c .before .before .before in subst (λ d. all (in-range 2048) d ≡ true) (sym (c .clause-of .ensures)) (ranged (s x .pre) (row x))
-
 position-requires : tie.Need-position-requires
-position-requires c κs = let x = c .before .before .before .before .before .before in (s x .pre .stack-fit, on-stack x)
+position-requires c κs = let x = c .before .before in (s x .pre .stack-fit, on-stack x)
 
 add-above : tie.Need-add-above
 add-above c = search needs
 
+clause-of-requires : tie.Need-clause-of-requires
+clause-of-requires c κs = let x = c .before .before .before in (below-rows (s x .pre) (row x), row-inside (s x .pre) (k x) (row x .below))
+
 slice-aggregate-cleanly : tie.Need-slice-aggregate-cleanly
-slice-aggregate-cleanly c = sym (count-rows (s (c .before .before .before .before .before .before .before .before) .pre))
+slice-aggregate-cleanly c = sym (count-rows (s (w (c .before)) .pre))
 
 mul-cleanly : tie.Need-mul-cleanly
 mul-cleanly c = search needs
@@ -111,7 +114,7 @@ part-cleanly-end : tie.Need-part-cleanly-end
 part-cleanly-end c = search needs
 
 cleanly-requires : tie.Need-cleanly-requires
-cleanly-requires c κs = let x = c .before .before .before .before in let f = s (x .before .before .before .before .before .before .before) .pre in (readable f, stacked-behind f (x .position .result) (x .position .ensures .0))
+cleanly-requires c κs = let x = c .before .before in let f = s (w x) .pre in (readable f, stacked-behind f (x .before .position .result) (x .before .position .ensures .0), clause-ranged x)
 
 enum-known-clean : tie.Need-enum-known-clean
 enum-known-clean c = search needs
@@ -123,7 +126,7 @@ enum-told-2 : tie.Need-enum-told-2
 enum-told-2 c = search needs
 
 returns-3 : tie.Need-returns-3
-returns-3 c = let x = c .before .before in (left x ∙ c .enum-told2 .given .1, row (w x))
+returns-3 c = let x = c .before .before in (left x ∙ c .enum-told2 .given .1, row (w (v x)))
 
 pub judge-restore-spec : {M : Type 1} → statement M
 judge-restore-spec =
@@ -135,10 +138,9 @@ judge-restore-spec =
     returns
     cast-n
     cast-depth
-    clause-of-requires
-    mark-requires
     position-requires
     add-above
+    clause-of-requires
     slice-aggregate-cleanly
     mul-cleanly
     sub-cleanly

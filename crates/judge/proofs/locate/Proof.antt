@@ -1,9 +1,9 @@
-use mathlib.Core.Path.{_≡_, sym, _∙_, subst}
+use mathlib.Core.Path.{sym, _∙_, subst}
 use Prim.Native.Nat.{ℕ}
 use native.Mathlib.Omega.{arith}
 use borrow.Author.Needs.{needs}
 use Rattle.table.specs.Spelled.{Located, held-rows}
-use Rattle.table.specs.declared.Found.the-variants.{At, Nothing}
+use Rattle.table.specs.declared.Found.the-variants.{At}
 use Rattle.table.proofs.Finding.{nowhere}
 use Rattle.judge.proofs.Located.{count-rows, below-count, here, elsewhere}
 use Rattle.judge.proofs.locate.Statement.{statement}
