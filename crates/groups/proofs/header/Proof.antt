@@ -1,8 +1,7 @@
 use mathlib.Core.Path.{_≡_, sym, _∙_}
 use mathlib.Core.Bool.{true}
 use mathlib.Core.List.{List}
-use Prim.Native.Nat.{ℕ, _+_, _-_, _≤_, _<_}
-use native.Mathlib.Omega.{arith}
+use Prim.Native.Nat.{_+_, _<_}
 use lib.IntN.{ℤ, pos}
 use lib.ListN.{length, getD}
 use borrow.Author.Needs.{needs}
@@ -11,8 +10,6 @@ use Rattle.rules.specs.Frames.{number}
 use Rattle.rules.proofs.Lists.{not-true, not-false}
 use Rattle.literal.specs.Signs.{is-pos}
 use Rattle.literal.proofs.Signed.{said}
-use Rattle.groups.specs.Groups.{Headed}
-use Rattle.groups.specs.declared.Onward.the-variants.{Go, Stop}
 use Rattle.groups.proofs.Groups.{group-missing, wrong-id, count-missing, negative-count, past-the-end, header-read}
 use Rattle.groups.proofs.header.Statement.{statement}
 use Rattle.groups.proofs.header.Tie as tie

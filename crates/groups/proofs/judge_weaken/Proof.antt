@@ -97,7 +97,7 @@ module _ (x : tie.After-all-groups) where
 
   judged : check-weaken (state (told (found (lits shared)))) (b .args .id) (b .args .w .now) (b .args .ws .now) ≡ x .all-groups .result
   judged =
-      left shared ∙ goes-on (met (not-false (x .before .before .before .before .before .before .before .if1 .left)) _) _
+      left shared ∙ goes-on (met (not-false (x .before .before .before .before .before .before .if1 .left)) _) _
       ∙ goes-on (free-words-is (b .pre .0) _ ∙ met (le-leb _ _ (x .before .before .before .before .before .if2 .left)) _) _
       ∙ sym (x .all-groups .ensures ∙ ap₂ (groups-of (lits shared)) (lits-are (lits shared)) (shared .before .before .before .before .before .mark .ensures))
 
@@ -137,17 +137,17 @@ mark-requires c κs = let x = told (found c) in flaw-in _ _ _ (s x .pre .0 .vars
 shares-requires : tie.Need-shares-requires
 shares-requires c κs = clause-ranged (c .before .before .before .before .before)
 
+cast-words : tie.Need-cast-words
+cast-words c = search needs
+
+add-words : tie.Need-add-words
+add-words c = search needs
+
 returns-3 : tie.Need-returns-3
-returns-3 c = left (c .before) ∙ stops (unmet (not-true (c .if1 .taken)) _) _
-
-cast-if2 : tie.Need-cast-if2
-cast-if2 c = search needs
-
-add-if2 : tie.Need-add-if2
-add-if2 c = search needs
+returns-3 c = left (c .before .before) ∙ stops (unmet (not-true (c .if1 .taken)) _) _
 
 returns-4 : tie.Need-returns-4
-returns-4 c = let x = c .before .before .before in left x ∙ goes-on (met (not-false (c .before .before .if1 .left)) _) _ ∙ stops (free-words-is (a (lits x) .pre .0) _ ∙ unmet (lt-leb _ _ (c .if2 .taken)) _) _
+returns-4 c = let x = c .before .before .before in left x ∙ goes-on (met (not-false (c .before .if1 .left)) _) _ ∙ stops (free-words-is (a (lits x) .pre .0) _ ∙ unmet (lt-leb _ _ (c .if2 .taken)) _) _
 
 cast-n : tie.Need-cast-n
 cast-n c = search needs
@@ -189,9 +189,9 @@ judge-weaken-spec =
     clause-of-requires
     mark-requires
     shares-requires
+    cast-words
+    add-words
     returns-3
-    cast-if2
-    add-if2
     returns-4
     cast-n
     slice-aggregate-all-groups
