@@ -69,7 +69,8 @@ module _ (i : ℕ) (pool : List ℤ) (W : Literals) where
       row-here : drop d rows ≡ row-at rows d ∷ drop (d + 1) rows
       row-here = rw (add-one, drop-cons rows d [])
 
-      pub judged : is-due i pool W (row-at rows d) ≡ true → (r : Onward) → Grouped A c W from ws (held pool (row-at rows d)) at r → whole ≡ onward r (groups-at A c W from ws (due (drop (d + 1) rows)))
+      pub judged : is-due i pool W (row-at rows d) ≡ true → (r : Onward) → Grouped A c W from ws (held pool (row-at rows d)) at r
+          → whole ≡ onward r (groups-at A c W from ws (due (drop (d + 1) rows)))
       unfolding only
       judged t r g = let e = row-here in (rw (e, t) at far) ∙ g .says (due (drop (d + 1) rows))
 

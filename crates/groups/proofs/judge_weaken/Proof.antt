@@ -147,7 +147,9 @@ returns-3 : tie.Need-returns-3
 returns-3 c = left (c .before .before) ∙ stops (unmet (not-true (c .if1 .taken)) _) _
 
 returns-4 : tie.Need-returns-4
-returns-4 c = let x = c .before .before .before in left x ∙ goes-on (met (not-false (c .before .if1 .left)) _) _ ∙ stops (free-words-is (a (lits x) .pre .0) _ ∙ unmet (lt-leb _ _ (c .if2 .taken)) _) _
+returns-4 c =
+    let x = c .before .before .before in
+    left x ∙ goes-on (met (not-false (c .before .if1 .left)) _) _ ∙ stops (free-words-is (a (lits x) .pre .0) _ ∙ unmet (lt-leb _ _ (c .if2 .taken)) _) _
 
 cast-n : tie.Need-cast-n
 cast-n c = search needs
