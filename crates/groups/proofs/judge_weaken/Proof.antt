@@ -20,9 +20,10 @@ use Rattle.rules.proofs.Lists.{not-true, not-false}
 use Rattle.clause.proofs.Faults.{flaw-in}
 use Rattle.table.specs.Spelled.{spelled}
 use Rattle.table.specs.declared.Found.{Found}
+use Rattle.table.proofs.Moves.{row-inside}
 use Rattle.table.proofs.Readers.{readable, count-rows, free-words-is}
 use Rattle.judge.specs.Judged.{Located-in, RowOf}
-use Rattle.judge.proofs.Located.{below-rows, inside, ranged, has-it, fetches-it}
+use Rattle.judge.proofs.Located.{below-rows, ranged, has-it, fetches-it}
 use Rattle.judge.proofs.Order.{goes-on, stops, met, unmet}
 use Rattle.groups.proofs.judge_weaken.Statement.{statement}
 use Rattle.groups.proofs.judge_weaken.Tie as tie
@@ -129,7 +130,7 @@ returns-2 : tie.Need-returns-2
 returns-2 c = goes-on (unflawed (c .before .before .before)) _ ∙ stops (unmet (located (c .before .before) (c .enum-told2 .given .1) _) _) _
 
 clause-of-requires : tie.Need-clause-of-requires
-clause-of-requires c κs = let f = s (told c) .pre .0 in (below-rows f (row c), inside f (row c))
+clause-of-requires c κs = let f = s (told c) .pre .0 in (below-rows f (row c), row-inside f (k c) (row c .below))
 
 mark-requires : tie.Need-mark-requires
 mark-requires c κs = let x = told (found c) in flaw-in _ _ _ (s x .pre .0 .vars-fit .1) (unflawed x)
