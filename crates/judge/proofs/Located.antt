@@ -10,7 +10,7 @@ use lib.Seq.{length-take-le, getD-take}
 use borrow.Author.Tests.{eq-eqb, ne-eqb}
 use Rattle.rules.specs.Lists.{all}
 use Rattle.rules.specs.Terms.{in-range, has, fetch}
-use Rattle.table.specs.Spelled.{Row, row-at, id-of, place-of, clause-part, held, clauses, held-rows, Rising, Inside, Fit, Located}
+use Rattle.table.specs.Spelled.{Row, row-at, id-of, place-of, clause-part, held, clauses, held-rows, Rising, Fit, Located}
 use Rattle.table.specs.declared.Table.{Table}
 use Rattle.table.specs.declared.Found.the-variants.{At}
 use Rattle.table.proofs.Finding as finding
@@ -52,9 +52,6 @@ module _ {t : Table} {rows : List Row} {pool : List ℤ} {stack : List ℕ} (f :
 
   same : row-at rs k ≡ row-at rows k
   same = row-same t rows (f .rows-fit) k (r .below)
-
-  pub inside : Inside (length pool) (row-at rows k)
-  inside = subst (Inside (length pool)) same (readable f .inside k below-held)
 
   pub ranged : all (in-range 2048) (clause-part pool (row-at rows k)) ≡ true
   ranged = subst (λ x. all (in-range 2048) (clause-part pool x) ≡ true) same (readable f .ranged k below-held)

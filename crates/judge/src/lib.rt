@@ -1,13 +1,20 @@
 // What each operation but WEAKEN asks of the working table, in document 01's order. Everything is lent by &, so that a refusal cannot write.
 ghost use mathlib.Core.Path.{_≡_};
+ghost use mathlib.Core.Bool.{true};
 ghost use mathlib.Core.List.{List};
 ghost use Prim.Native.Nat.{ℕ, _≤_};
+ghost use lib.Dec.{ltb};
 ghost use lib.ListN.{length};
-ghost use Rattle.rules.specs.Answers.{_then_, free-entry, free-words};
+ghost use Rattle.rules.specs.Lists.{all};
+ghost use Rattle.rules.specs.Terms.{in-range};
+ghost use Rattle.rules.specs.Answers.{_then_, need, unseen, free-entry, free-words};
 ghost use Rattle.rules.specs.Answers as paper;
+ghost use Rattle.rules.specs.declared.Fault.the-variants.{Id};
 ghost use Rattle.rules.proofs.Propagation.{Stopped};
-ghost use Rattle.table.specs.Spelled.{Fit, Rising, held-rows, spelled};
-ghost use Rattle.judge.specs.Judged.{Located-in, Judges};
+ghost use Rattle.words.specs.Words.{assigned};
+ghost use Rattle.table.specs.Spelled.{Fit, Readable, Rising, held-rows, spelled};
+ghost use Rattle.walk.specs.Records.{Stacked, records};
+ghost use Rattle.judge.specs.Judged.{Located-in, Judges, Offers, check-offered};
 use hints::Scope;
 use rules::Check;
 use rules::Fault;
@@ -36,6 +43,32 @@ pub fn locate(rows: &[[u32; 5]], t: Table, place: u32, id: u32) -> Found
         return Found::At(k);
     }
     Found::Nothing
+}
+
+// 3, then 4: a clause under a new id, where `at` is the index of its first literal.
+fn new_clause(t: Table, id: u32, c: &[i32], at: usize) -> Check
+    requires { ⌜ (t .vars ≤ 2048) × (at ≤ 4096) × (length (now c) ≤ 4096) ⌝ }
+    ensures { λ r. ⌜ r ≡ (paper.flaw (t .vars) unseen at (now (c .entry)) then need (ltb (t .highest) id) (Id id)) ⌝ }
+{
+    let flaw = clause::flaw(t.vars as usize, c, at);
+    if let Check::Failed(f) = flaw {
+        return Check::Failed(f);
+    }
+    if id <= t.highest {
+        return Check::Failed(Fault::Id(id));
+    }
+    Check::Passed
+}
+
+// 5: the topmost of the records, whose ids `stack` has from the bottom, against which c is not clean.
+fn cleanly(rows: &[[u32; 5]], pool: &[i32], stack: &[u32], c: &[i32]) -> Check
+    requires { ⌜ Readable (now rows) (now pool) × Stacked (now pool) (now rows) (now stack) × (all (in-range 2048) (now c) ≡ true) ⌝ }
+    ensures { λ r. ⌜ r ≡ paper.cleanly (now (c .entry)) (records (now (pool .entry)) (now (rows .entry)) (now (stack .entry))) ⌝ }
+{
+    let marks = clause::mark(c);
+    let plus = marks.plus;
+    let minus = marks.minus;
+    walk::cleanly(rows, pool, stack, &plus, &minus)
 }
 
 // 7 and 8: `at` is the index of the first hint, `d` the detail of 8.
@@ -78,19 +111,13 @@ pub fn judge_add(
     requires { ⌜ Fit t (now rows) (now pool) (now stack) × (length (now c) ≤ 256) ⌝ }
     ensures { λ r. ⌜ r ≡ paper.check-add (spelled t (now (rows .entry)) (now (pool .entry)) (now (stack .entry))) id (now (c .entry)) ⌝ }
 {
-    let flaw = clause::flaw(t.vars as usize, c, 2);
-    if let Check::Failed(f) = flaw {
+    let sound = new_clause(t, id, c, 2);
+    if let Check::Failed(f) = sound {
         return Check::Failed(f);
-    }
-    if id <= t.highest {
-        return Check::Failed(Fault::Id(id));
     }
     let n = t.count as usize;
     let depth = t.depth as usize;
-    let marks = clause::mark(c);
-    let plus = marks.plus;
-    let minus = marks.minus;
-    let clean = walk::cleanly(&rows[..n], pool, &stack[..depth], &plus, &minus);
+    let clean = cleanly(&rows[..n], pool, &stack[..depth], c);
     if let Check::Failed(f) = clean {
         return Check::Failed(f);
     }
@@ -109,12 +136,9 @@ pub fn judge_learn(
     requires { ⌜ Fit t (now rows) (now pool) (now stack) × (length (now c) ≤ 256) × (length (now hints) ≤ 4096) ⌝ }
     ensures { λ r. ⌜ r ≡ paper.check-learn (spelled t (now (rows .entry)) (now (pool .entry)) (now (stack .entry))) id (now (c .entry)) (now (hints .entry)) ⌝ }
 {
-    let flaw = clause::flaw(t.vars as usize, c, 3);
-    if let Check::Failed(f) = flaw {
+    let sound = new_clause(t, id, c, 3);
+    if let Check::Failed(f) = sound {
         return Check::Failed(f);
-    }
-    if id <= t.highest {
-        return Check::Failed(Fault::Id(id));
     }
     let free = room(rows, pool, t, c.len());
     if let Check::Failed(f) = free {
@@ -166,6 +190,87 @@ pub fn judge_drop(
         return Judged::Refused(f);
     }
     Judged::Accepted(k)
+}
+
+pub fn judge_restore(rows: &[[u32; 5]], pool: &[i32], stack: &[u32], t: Table, id: u32) -> Judged
+    requires { ⌜ Fit t (now rows) (now pool) (now stack) ⌝ }
+    ensures { λ r. ⌜ Judges t (now (rows .entry)) 2 id (paper.check-restore (spelled t (now (rows .entry)) (now (pool .entry)) (now (stack .entry))) id) r ⌝ }
+{
+    let Found::At(k) = locate(rows, t, 2, id) else {
+        return Judged::Refused(Fault::Id(id));
+    };
+    let n = t.count as usize;
+    let depth = t.depth as usize;
+    let above = slices::position(stack, depth, id) + 1;
+    let c = table::clause_of(rows, pool, k);
+    let clean = cleanly(&rows[..n], pool, &stack[above..depth], c);
+    if let Check::Failed(f) = clean {
+        return Judged::Refused(f);
+    }
+    Judged::Accepted(k)
+}
+
+// What SAT's checks come to, and the words of the offered assignment.
+pub struct Offer {
+    pub check: Check,
+    pub offered: [u64; 32],
+}
+
+// 11, 5, 10 of an offered assignment.
+fn judge_offered(
+    rows: &[[u32; 5]],
+    pool: &[i32],
+    stack: &[u32],
+    t: Table,
+    assumed: &[i32],
+    offered: &[u64; 32],
+) -> Check
+    requires { ⌜ Fit t (now rows) (now pool) (now stack) × (length (now assumed) ≤ 256) × (all (in-range 2048) (now assumed) ≡ true) ⌝ }
+    ensures { λ r. ⌜ r ≡ check-offered (spelled t (now (rows .entry)) (now (pool .entry)) (now (stack .entry))) (assigned (now (offered .entry))) (now (assumed .entry)) ⌝ }
+{
+    let wrong = walk::assumed_true(offered, assumed, 2);
+    if let Check::Failed(f) = wrong {
+        return Check::Failed(f);
+    }
+    let n = t.count as usize;
+    let depth = t.depth as usize;
+    let clean = cleanly(&rows[..n], pool, &stack[..depth], assumed);
+    if let Check::Failed(f) = clean {
+        return Check::Failed(f);
+    }
+    walk::satisfied(&rows[..n], pool, offered)
+}
+
+pub fn judge_sat(
+    rows: &[[u32; 5]],
+    pool: &[i32],
+    stack: &[u32],
+    t: Table,
+    assumed: &[i32],
+    vs: &[i32],
+) -> Offer
+    requires { ⌜ Fit t (now rows) (now pool) (now stack) × (length (now assumed) ≤ 256) × (length (now vs) ≤ 4096) ⌝ }
+    ensures { λ r. ⌜ (r .check ≡ paper.check-sat (spelled t (now (rows .entry)) (now (pool .entry)) (now (stack .entry))) (now (assumed .entry)) (now (vs .entry))) × Offers (now (vs .entry)) (r .check) (r .offered) ⌝ }
+{
+    let none = [0u64; 32];
+    let vars = t.vars as usize;
+    let flaw = clause::ranged(vars, assumed, 2);
+    if let Check::Failed(f) = flaw {
+        return Offer {
+            check: Check::Failed(f),
+            offered: none,
+        };
+    }
+    let fall = clause::ascending(vars, vs, 2 + assumed.len());
+    if let Check::Failed(f) = fall {
+        return Offer {
+            check: Check::Failed(f),
+            offered: none,
+        };
+    }
+    let offered = words::offer(vs);
+    let check = judge_offered(rows, pool, stack, t, assumed, &offered);
+    Offer { check, offered }
 }
 
 pub fn judge_unsat(

@@ -9,11 +9,11 @@ use Rattle.rules.specs.Propagation.{proves}
 use Rattle.rules.specs.Answers.{decided, check-drop}
 use Rattle.table.specs.Spelled.{spelled}
 use Rattle.table.specs.declared.Found.{Found}
-use Rattle.table.specs.declared.Found.the-variants.{At}
+use Rattle.table.proofs.Moves.{row-inside}
 use Rattle.table.proofs.Readers.{readable, count-rows}
 use Rattle.hints.proofs.Scopes.{allows-others}
 use Rattle.judge.specs.Judged.{Located-in, RowOf}
-use Rattle.judge.proofs.Located.{below-rows, inside, ranged, has-it, fetches-it}
+use Rattle.judge.proofs.Located.{below-rows, ranged, has-it, fetches-it}
 use Rattle.judge.proofs.Order.{goes-on, stops, met, unmet}
 use Rattle.judge.proofs.Verdicts.{stopped-within}
 use Rattle.judge.proofs.judge_drop.Statement.{statement}
@@ -21,7 +21,7 @@ use Rattle.judge.proofs.judge_drop.Tie as tie
 
 -- what the search said
 located : (x : tie.After-locate) {r : Found} → x .locate .result ≡ r → let a = x .before .before .args in Located-in (a .t) (a .rows .now) 0 (a .id) r
-located x e = let a = x .before .before .args in subst (λ r. Located-in (a .t) (a .rows .now) 0 (a .id) r) e (x .locate .ensures)
+located x e = let a = x .before .before .args in subst (Located-in (a .t) (a .rows .now) 0 (a .id)) e (x .locate .ensures)
 
 -- past 4: the row
 module _ (x : tie.After-known-told) where
@@ -73,7 +73,7 @@ cast-n : tie.Need-cast-n
 cast-n c = search needs
 
 clause-of-requires : tie.Need-clause-of-requires
-clause-of-requires c κs = let x = c .before in (below-rows (s x .pre .0) (row x), inside (s x .pre .0) (row x))
+clause-of-requires c κs = let x = c .before in (below-rows (s x .pre .0) (row x), row-inside (s x .pre .0) (k x) (row x .below))
 
 slice-aggregate-proves : tie.Need-slice-aggregate-proves
 slice-aggregate-proves c = sym (count-rows (s (w (c .before)) .pre .0))

@@ -1,64 +1,59 @@
 -- Each return cites the checks before it.
 use mathlib.Core.Path.{_≡_, sym, _∙_, ap}
-use lib.ListN.{length}
-use borrow.Author.Needs.{needs}
-use borrow.Author.Tests.{lt-ltb, le-ltb}
 use mathlib.Core.List.{_++_}
 use Prim.Native.Nat.{_+_}
+use lib.Dec.{ltb}
+use lib.ListN.{length}
+use borrow.Author.Needs.{needs}
 use Rattle.rules.specs.Terms.{State}
 use Rattle.rules.specs.Propagation.{among, proves}
-use Rattle.rules.specs.Answers.{_then_, flaw, unseen, decided, check-learn}
+use Rattle.rules.specs.Answers.{_then_, need, flaw, unseen, decided, check-learn}
+use Rattle.rules.specs.declared.Fault.the-variants.{Id}
 use Rattle.rules.specs.declared.Check.{Check}
 use Rattle.rules.specs.declared.Check.the-variants.{Passed}
+use Rattle.rules.proofs.Checks.{then-left}
 use Rattle.clause.proofs.Faults.{flaw-in}
 use Rattle.table.specs.Spelled.{spelled}
 use Rattle.table.proofs.Readers.{readable, count-rows}
 use Rattle.hints.proofs.Scopes.{allows-all}
-use Rattle.judge.proofs.Order.{goes-on, stops, in-two, met, unmet}
+use Rattle.judge.proofs.Order.{goes-on, stops, in-two}
 use Rattle.judge.proofs.Verdicts.{stopped-within}
 use Rattle.judge.proofs.judge_learn.Statement.{statement}
 use Rattle.judge.proofs.judge_learn.Tie as tie
 
-abbrev state : tie.Start → State
-state s = spelled (s .args .t) (s .args .rows .now) (s .args .pool .now) (s .args .stack .now)
-
--- past 3
+-- past 3 and 4
 module _ (x : tie.After-enum-told) where
   abbrev s : tie.Start
-  s = x .before .before .before .before .before
+  s = x .before .before .before .before
 
-  unflawed : flaw (s .args .t .vars) unseen 3 (s .args .c .now) ≡ Passed
-  unflawed = sym (x .before .before .flaw .ensures) ∙ x .enum-told .given .1
+  sound : (flaw (s .args .t .vars) unseen 3 (s .args .c .now) then need (ltb (s .args .t .highest) (s .args .id)) (Id (s .args .id))) ≡ Passed
+  sound = sym (x .before .before .new-clause .ensures) ∙ x .enum-told .given .1
 
--- past 4: 12 and 13, then the hints
+-- 12 and 13, then the hints
 module _ (x : tie.After-room) where
-  abbrev e : tie.After-enum-told
-  e = x .before .before .before
+  abbrev a : tie.Start
+  a = s (x .before)
 
-  -- 7 and 8
+  abbrev state : State
+  state = spelled (a .args .t) (a .args .rows .now) (a .args .pool .now) (a .args .stack .now)
+
   abbrev proved : Check
-  proved = decided (3 + length (s e .args .c .now)) 0 (proves (among (state (s e) .irredundant ++ state (s e) .learned)) (s e .args .c .now) (s e .args .hints .now))
+  proved = decided (3 + length (a .args .c .now)) 0 (proves (among (state .irredundant ++ state .learned)) (a .args .c .now) (a .args .hints .now))
 
-  left : check-learn (state (s e)) (s e .args .id) (s e .args .c .now) (s e .args .hints .now) ≡ (x .room .result then proved)
-  left = goes-on (unflawed e) _ ∙ goes-on (met (lt-ltb _ _ (x .before .if1 .left)) _) _ ∙ in-two _ _ _ ∙ ap (λ r. r then proved) (sym (x .room .ensures _ (s e .pre .0)))
+  left : check-learn state (a .args .id) (a .args .c .now) (a .args .hints .now) ≡ (x .room .result then proved)
+  left = in-two _ _ _ ∙ goes-on (sound (x .before)) _ ∙ in-two _ _ _ ∙ ap (λ r. r then proved) (sym (x .room .ensures _ (a .pre .0)))
 
-cast-flaw : tie.Need-cast-flaw
-cast-flaw c = search needs
+new-clause-requires : tie.Need-new-clause-requires
+new-clause-requires c κs = search needs
 
-flaw-requires : tie.Need-flaw-requires
-flaw-requires c κs = search needs
-
-enum-known-flaw : tie.Need-enum-known-flaw
-enum-known-flaw c = search needs
+enum-known-sound : tie.Need-enum-known-sound
+enum-known-sound c = search needs
 
 returns : tie.Need-returns
-returns c = sym (stops (sym (c .before .before .before .flaw .ensures) ∙ c .before .flaw2 .given .1) _)
+returns c = sym (in-two _ _ _ ∙ stops (sym (c .before .before .before .new-clause .ensures) ∙ c .before .sound .given .1) _)
 
 enum-told : tie.Need-enum-told
 enum-told c = search needs
-
-returns-2 : tie.Need-returns-2
-returns-2 c = sym (goes-on (unflawed (c .before .before)) _ ∙ stops (unmet (le-ltb _ _ (c .if1 .taken)) _) _)
 
 room-requires : tie.Need-room-requires
 room-requires c κs = search needs
@@ -66,8 +61,8 @@ room-requires c κs = search needs
 enum-known-free : tie.Need-enum-known-free
 enum-known-free c = search needs
 
-returns-3 : tie.Need-returns-3
-returns-3 c = sym (left (c .before .before .before) ∙ stops (c .before .free .given .1) _)
+returns-2 : tie.Need-returns-2
+returns-2 c = sym (left (c .before .before .before) ∙ stops (c .before .free .given .1) _)
 
 enum-told-2 : tie.Need-enum-told-2
 enum-told-2 c = search needs
@@ -76,43 +71,41 @@ cast-n : tie.Need-cast-n
 cast-n c = search needs
 
 slice-aggregate-proves : tie.Need-slice-aggregate-proves
-slice-aggregate-proves c = sym (count-rows (s (e (c .before .before .before .before)) .pre .0))
+slice-aggregate-proves c = sym (count-rows (s (c .before .before .before .before .before) .pre .0))
 
 proves-requires : tie.Need-proves-requires
-proves-requires c κs = let x = e (c .before .before .before .before) in (readable (s x .pre .0), flaw-in _ _ _ (s x .pre .0 .vars-fit .1) (unflawed x))
+proves-requires c κs = let x = c .before .before .before .before .before in let f = s x .pre .0 in (readable f, flaw-in _ _ _ (f .vars-fit .1) (then-left _ _ (sound x)))
 
 add-decided : tie.Need-add-decided
 add-decided c = search needs
 
 decided-requires : tie.Need-decided-requires
-decided-requires c κs = (search needs, stopped-within _ _ _ _ (s (e (c .before .before .before .before .before)) .pre .2) (c .proves .ensures))
+decided-requires c κs = (search needs, stopped-within _ _ _ _ (s (c .before .before .before .before .before .before) .pre .2) (c .proves .ensures))
 
-returns-4 : tie.Need-returns-4
-returns-4 c =
+returns-3 : tie.Need-returns-3
+returns-3 c =
     let told = c .before .before .before .before in
     let x = told .before .before in
-    let a = s (e x) .args in
+    let i = a x .args in
     c .decided .ensures
-    ∙ ap (decided (3 + length (a .c .now)) 0) (c .before .proves .ensures ∙ ap (λ A. proves A (a .c .now) (a .hints .now)) (allows-all (readable (s (e x) .pre .0))))
+    ∙ ap (decided (3 + length (i .c .now)) 0) (c .before .proves .ensures ∙ ap (λ A. proves A (i .c .now) (i .hints .now)) (allows-all (readable (a x .pre .0))))
     ∙ sym (left x ∙ goes-on (told .enum-told2 .given .1) _)
 
 pub judge-learn-spec : {M : Type 1} → statement M
 judge-learn-spec =
     tie.close
     (tie.spec
-    cast-flaw
-    flaw-requires
-    enum-known-flaw
+    new-clause-requires
+    enum-known-sound
     returns
     enum-told
-    returns-2
     room-requires
     enum-known-free
-    returns-3
+    returns-2
     enum-told-2
     cast-n
     slice-aggregate-proves
     proves-requires
     add-decided
     decided-requires
-    returns-4)
+    returns-3)

@@ -9,7 +9,7 @@ use Rattle.judge.proofs.judge_learned.Tie as tie
 
 -- what the search said
 located : (x : tie.After-locate) {r : Found} → x .locate .result ≡ r → let a = x .before .before .args in Located-in (a .t) (a .rows .now) 1 (a .id) r
-located x e = let a = x .before .before .args in subst (λ r. Located-in (a .t) (a .rows .now) 1 (a .id) r) e (x .locate .ensures)
+located x e = let a = x .before .before .args in subst (Located-in (a .t) (a .rows .now) 1 (a .id)) e (x .locate .ensures)
 
 locate-requires : tie.Need-locate-requires
 locate-requires c κs = search needs
