@@ -63,7 +63,8 @@ module _ (i : ℕ) (pool : List ℤ) (W : Literals) where
   -- a loop that has passed d rows and `at` words
   module _ (A : Allowed) (c : List ℤ) (from : ℕ) (ws : List ℤ) (rows : List Row) (whole : Check) (d at : ℕ) (far : whole ≡ groups-at A c W from ws (due (drop d rows)) at) where
     module _ (h : d < length rows) where
-      pub judged : is-due i pool W (row-at rows d) ≡ true → (r : Onward) → Grouped A c W from ws (held pool (row-at rows d)) at r → whole ≡ onward r (groups-at A c W from ws (due (drop (d + 1) rows)))
+      pub judged : is-due i pool W (row-at rows d) ≡ true → (r : Onward) → Grouped A c W from ws (held pool (row-at rows d)) at r
+          → whole ≡ onward r (groups-at A c W from ws (due (drop (d + 1) rows)))
       unfolding only
       judged t r g = let e = from-index rows d [] h in (rw (e, t) at far) ∙ g .says (due (drop (d + 1) rows))
 

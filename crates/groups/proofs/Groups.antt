@@ -25,7 +25,8 @@ use Rattle.groups.specs.declared.Onward.the-variants.{Go, Stop}
 -- ---- a header, by the tests in their order
 
 module _ (from : ℕ) (ws : List ℤ) (at due : ℕ) where
-  refused : (n : ℕ) → ((A : Allowed) (c : List ℤ) (W : Literals) (D : Held) (ds : List Held) → D .id ≡ due → groups-at A c W from ws (D ∷ ds) at ≡ Failed (Group n)) → Headed from ws at due (Stop (Group n))
+  refused : (n : ℕ) → ((A : Allowed) (c : List ℤ) (W : Literals) (D : Held) (ds : List Held) → D .id ≡ due → groups-at A c W from ws (D ∷ ds) at ≡ Failed (Group n))
+      → Headed from ws at due (Stop (Group n))
   refused n e = record { says = e; ahead = tt }
 
   pub group-missing : length ws ≤ at → Headed from ws at due (Stop (Group (from + at)))
@@ -36,7 +37,8 @@ module _ (from : ℕ) (ws : List ℤ) (at due : ℕ) where
     abbrev x : ℤ
     x = getD ws at (pos 0)
 
-    wrong : (A : Allowed) (c : List ℤ) (W : Literals) (D : Held) (ds : List Held) (more : List ℤ) → same x (pos (D .id)) ≡ false → groups A c W (D ∷ ds) (from + at) (x ∷ more) ≡ Failed (Group (from + at))
+    wrong : (A : Allowed) (c : List ℤ) (W : Literals) (D : Held) (ds : List Held) (more : List ℤ) → same x (pos (D .id)) ≡ false
+        → groups A c W (D ∷ ds) (from + at) (x ∷ more) ≡ Failed (Group (from + at))
     unfolding groups _then_ need
     wrong A c W D ds [] f = rw f
     wrong A c W D ds (k ∷ more) f = rw f

@@ -43,7 +43,7 @@ abbrev pub onward : Onward → (ℕ → Check) → Check
 onward (Go n) left = left n
 onward (Stop f) left = Failed f
 
--- the word is one of these, or the end
+-- the word to go on at lies between the two
 abbrev pub Ahead : ℕ → ℕ → Onward → Type 0
 Ahead least most (Go n) = (least ≤ n) × (n ≤ most)
 Ahead least most (Stop f) = Unit {0}

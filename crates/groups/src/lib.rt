@@ -173,10 +173,12 @@ pub fn judge_weaken(
     let marks = clause::mark(w);
     let wplus = marks.plus;
     let wminus = marks.minus;
-    if !clause::shares(c, &wplus, &wminus) {
+    let shared = clause::shares(c, &wplus, &wminus);
+    let words = t.words as usize + w.len();
+    if !shared {
         return Judged::Refused(Fault::NoWitness);
     }
-    if pool.len() < t.words as usize + w.len() {
+    if pool.len() < words {
         return Judged::Refused(Fault::NoWords);
     }
     let n = t.count as usize;

@@ -1,3 +1,4 @@
+-- The header comes to what is left behind it; its hints then decide.
 use mathlib.Core.Path.{_≡_, sym, _∙_, ap, ap₂}
 use mathlib.Core.List.{List}
 use Prim.Native.Nat.{ℕ, _+_}
@@ -48,10 +49,19 @@ module _ (x : tie.After-proves-with) where
   those = hints-of (s read .args .ws .now) (s read .args .at) (end read)
 
   verdict : x .proves-with .result ≡ proves (A read) (target (s read .args .c .now) (W read) (D read .lits)) those
-  verdict = x .proves-with .ensures ∙ ap₂ (λ B d. proves B (target (s read .args .c .now) (W read) d) those) (allows-others (s read .pre .0) (s read .args .id)) (x .before .before .clause-of .ensures)
+  verdict =
+      x .proves-with .ensures
+      ∙ ap₂ (λ B d. proves B (target (s read .args .c .now) (W read) d) those) (allows-others (s read .pre .0) (s read .args .id)) (x .before .before .clause-of .ensures)
 
-  said : {r : Check} → r ≡ decided (s read .args .from + (s read .args .at + 2)) (read .before .before .before .before .id-at .result) (x .proves-with .result) → r ≡ decided (s read .args .from + (s read .args .at + 2)) (D read .id) (x .proves-with .result)
-  said e = e ∙ ap (λ i. decided (s read .args .from + (s read .args .at + 2)) i (x .proves-with .result)) (read .before .before .before .before .id-at .ensures)
+  -- of its first hint
+  abbrev index : ℕ
+  index = s read .args .from + (s read .args .at + 2)
+
+  abbrev due : tie.After-id-at
+  due = read .before .before .before .before
+
+  detailed : {r : Check} → r ≡ decided index (due .id-at .result) (x .proves-with .result) → r ≡ decided index (D read .id) (x .proves-with .result)
+  detailed e = e ∙ ap (λ i. decided index i (x .proves-with .result)) (due .id-at .ensures)
 
 id-at-requires : tie.Need-id-at-requires
 id-at-requires c κs = search needs
@@ -102,13 +112,15 @@ enum-known-check : tie.Need-enum-known-check
 enum-known-check c = search needs
 
 returns-2 : tie.Need-returns-2
-returns-2 c = let x = c .before .before .before .before in unproved _ _ _ _ _ _ _ _ (headed (read x)) _ (verdict x) _ (sym (said x (c .before .before .before .decided .ensures)) ∙ c .before .check .given .1)
+returns-2 c =
+    let x = c .before .before .before .before in
+    unproved _ _ _ _ _ _ _ _ (headed (read x)) _ (verdict x) _ (sym (detailed x (c .before .before .before .decided .ensures)) ∙ c .before .check .given .1)
 
 enum-told-2 : tie.Need-enum-told-2
 enum-told-2 c = search needs
 
 returns-3 : tie.Need-returns-3
-returns-3 c = let x = c .before .before .before in proved _ _ _ _ _ _ _ _ (headed (read x)) _ (verdict x) (sym (said x (c .before .before .decided .ensures)) ∙ c .enum-told2 .given .1)
+returns-3 c = let x = c .before .before .before in proved _ _ _ _ _ _ _ _ (headed (read x)) _ (verdict x) (sym (detailed x (c .before .before .decided .ensures)) ∙ c .enum-told2 .given .1)
 
 pub group-spec : {M : Type 1} → statement M
 group-spec =

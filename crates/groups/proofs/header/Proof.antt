@@ -1,3 +1,4 @@
+-- Each return cites the words read before it.
 use mathlib.Core.Path.{_≡_, sym, _∙_}
 use mathlib.Core.Bool.{true}
 use mathlib.Core.List.{List}

@@ -20,9 +20,9 @@ use Rattle.rules.proofs.Lists.{not-true, not-false}
 use Rattle.clause.proofs.Faults.{flaw-in}
 use Rattle.table.specs.Spelled.{spelled}
 use Rattle.table.specs.declared.Found.{Found}
+use Rattle.table.proofs.Moves.{row-inside}
 use Rattle.table.proofs.Readers.{readable, count-rows, free-words-is}
 use Rattle.judge.specs.Judged.{Located-in, RowOf}
-use Rattle.table.proofs.Moves.{row-inside}
 use Rattle.judge.proofs.Located.{below-rows, ranged, has-it, fetches-it}
 use Rattle.judge.proofs.Order.{goes-on, stops, met, unmet}
 use Rattle.groups.proofs.judge_weaken.Statement.{statement}
@@ -98,7 +98,7 @@ module _ (x : tie.After-all-groups) where
 
   judged : check-weaken (state (told (found (lits shared)))) (b .args .id) (b .args .w .now) (b .args .ws .now) ≡ x .all-groups .result
   judged =
-      left shared ∙ goes-on (met (not-false (x .before .before .before .before .before .before .before .if1 .left)) _) _
+      left shared ∙ goes-on (met (not-false (x .before .before .before .before .before .before .if1 .left)) _) _
       ∙ goes-on (free-words-is (b .pre .0) _ ∙ met (le-leb _ _ (x .before .before .before .before .before .if2 .left)) _) _
       ∙ sym (x .all-groups .ensures ∙ ap₂ (groups-of (lits shared)) (lits-are (lits shared)) (shared .before .before .before .before .before .mark .ensures))
 
@@ -130,7 +130,7 @@ returns-2 : tie.Need-returns-2
 returns-2 c = goes-on (unflawed (c .before .before .before)) _ ∙ stops (unmet (located (c .before .before) (c .enum-told2 .given .1) _) _) _
 
 clause-of-requires : tie.Need-clause-of-requires
-clause-of-requires c κs = let f = s (told c) .pre .0 in (below-rows f (row c), row-inside f _ (row c .below))
+clause-of-requires c κs = let f = s (told c) .pre .0 in (below-rows f (row c), row-inside f (k c) (row c .below))
 
 mark-requires : tie.Need-mark-requires
 mark-requires c κs = let x = told (found c) in flaw-in _ _ _ (s x .pre .0 .vars-fit .1) (unflawed x)
@@ -138,17 +138,19 @@ mark-requires c κs = let x = told (found c) in flaw-in _ _ _ (s x .pre .0 .vars
 shares-requires : tie.Need-shares-requires
 shares-requires c κs = clause-ranged (c .before .before .before .before .before)
 
+cast-words : tie.Need-cast-words
+cast-words c = search needs
+
+add-words : tie.Need-add-words
+add-words c = search needs
+
 returns-3 : tie.Need-returns-3
-returns-3 c = left (c .before) ∙ stops (unmet (not-true (c .if1 .taken)) _) _
-
-cast-if2 : tie.Need-cast-if2
-cast-if2 c = search needs
-
-add-if2 : tie.Need-add-if2
-add-if2 c = search needs
+returns-3 c = left (c .before .before) ∙ stops (unmet (not-true (c .if1 .taken)) _) _
 
 returns-4 : tie.Need-returns-4
-returns-4 c = let x = c .before .before .before in left x ∙ goes-on (met (not-false (c .before .before .if1 .left)) _) _ ∙ stops (free-words-is (a (lits x) .pre .0) _ ∙ unmet (lt-leb _ _ (c .if2 .taken)) _) _
+returns-4 c =
+    let x = c .before .before .before in
+    left x ∙ goes-on (met (not-false (c .before .if1 .left)) _) _ ∙ stops (free-words-is (a (lits x) .pre .0) _ ∙ unmet (lt-leb _ _ (c .if2 .taken)) _) _
 
 cast-n : tie.Need-cast-n
 cast-n c = search needs
@@ -190,9 +192,9 @@ judge-weaken-spec =
     clause-of-requires
     mark-requires
     shares-requires
+    cast-words
+    add-words
     returns-3
-    cast-if2
-    add-if2
     returns-4
     cast-n
     slice-aggregate-all-groups

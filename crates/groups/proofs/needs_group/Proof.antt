@@ -1,3 +1,4 @@
+-- Each return cites the tests before it.
 use mathlib.Core.Path.{_≡_, sym, _∙_, ap}
 use mathlib.Core.Bool.{true, not}
 use borrow.Author.Needs.{needs}
