@@ -4,7 +4,7 @@ use mathlib.Core.Bool.{Bool, true, false, _&&_}
 use mathlib.Core.List.{List, [], _∷_, map}
 use Prim.Native.Nat.{ℕ, zero, suc, _≤_, _<_}
 use native.Mathlib.Omega.{arith}
-use lib.Dec.{eqb, ltb, leb}
+use lib.Dec.{eqb, leb}
 use lib.IntN.{ℤ, pos, negsuc, natAbs}
 use lib.ListN.{length}
 use borrow.Author.Tests.{ltb-true, eqb-true}
@@ -20,7 +20,7 @@ use Rattle.rules.proofs.Held.{fetch-all, mend-other}
 use Rattle.words.specs.Words.{assigned}
 use Rattle.words.proofs.Counted.{differ-within}
 use Rattle.table.specs.Facts.{All, none, both}
-use Rattle.table.specs.Spelled.{Row, place-of, held, stands, clauses, held-rows, from-top, spelled, Lawful, Fit}
+use Rattle.table.specs.Spelled.{Row, place-of, held, stands, clauses, spelled, Lawful, Fit}
 use Rattle.table.specs.declared.Table.{Table}
 use Rattle.steps.specs.Applied.{Answered}
 

@@ -8,7 +8,7 @@ use lib.IntN.{ℤ}
 use lib.ListN.{length}
 use borrow.Author.Tests.{ltb-true, leb-true}
 use Rattle.rules.specs.Terms.{is-clause, is-witness, holds, Held, State, fetch, everything, room}
-use Rattle.rules.specs.Frames.{Frame, next}
+use Rattle.rules.specs.Frames.{Frame}
 use Rattle.rules.specs.Answers.{check, check-add, check-learn, check-weaken, flaw, unseen, new-id, free-entry, free-words}
 use Rattle.rules.specs.declared.Fault.{Fault}
 use Rattle.rules.specs.declared.Check.{Check}
@@ -25,7 +25,6 @@ use Rattle.judge.specs.declared.Judged.{Judged}
 use Rattle.judge.specs.declared.Judged.the-variants as judged
 use Rattle.judge.proofs.Located.{fetches-it}
 use Rattle.steps.specs.Applied.{answer-of, refused-with, accepted-with, Applied}
-use Rattle.steps.specs.declared.Stepped.{Stepped}
 
 -- ---- an application
 

@@ -1,13 +1,15 @@
 -- From a frame's application to what a frame's words come to.
 use mathlib.Core.Path.{_≡_, refl, sym, _∙_, ap}
-use mathlib.Core.Bool.{Bool, true, false, true≢false}
+use mathlib.Core.Bool.{true, false, true≢false}
 use mathlib.Core.List.{List}
-use Prim.Native.Nat.{ℕ}
+use Prim.Native.Nat.{ℕ, _+_, _-_, _≤_}
 use native.Mathlib.Omega.{arith}
 use lib.IntN.{ℤ}
+use lib.ListN.{length, take, drop, length-take, length-drop}
+use lib.Seq.{take-all}
 use Rattle.rules.specs.Terms.{State}
-use Rattle.rules.specs.Frames.{Frame, malformed, framed, parse}
-use Rattle.rules.specs.Answers.{check, Handed, untouched, hands, settled, outcome}
+use Rattle.rules.specs.Frames.{Frame, malformed, framed, parse, next}
+use Rattle.rules.specs.Answers.{check, untouched, hands, settled, outcome}
 use Rattle.rules.specs.declared.Fault.{Fault}
 use Rattle.rules.specs.declared.Fault.the-variants.{Malformed}
 use Rattle.rules.specs.declared.Check.{Check}
@@ -16,8 +18,22 @@ use Rattle.rules.specs.declared.Answer.{Answer}
 use Rattle.rules.specs.declared.Answer.the-variants.{Accepted, Refused}
 use Rattle.table.specs.Spelled.{Row, spelled, Fit}
 use Rattle.table.specs.declared.Table.{Table}
-use Rattle.steps.specs.Applied.{answer-of, refused-with, Same, Applied, Answered, Steps, Wrote, asks}
+use Rattle.steps.specs.Applied.{answer-of, refused-with, Same, Applied, Answered, Steps, asks}
 use Rattle.steps.specs.declared.Stepped.{Stepped}
+
+-- ---- the frame's lists, as slices of its words
+
+module _ (a : ℕ) (ws : List ℤ) where
+  pub few : (b : ℕ) → length (take (b - a) (drop a ws)) ≤ b - a
+  few b = omega (arith, length-take (b - a) (drop a ws))
+
+  pub rest-is : take (length ws - a) (drop a ws) ≡ drop a ws
+  rest-is = take-all (length ws - a) (drop a ws) (omega (arith, length-drop a ws))
+
+  pub list-is : (n : ℕ) → take (a + n - a) (drop a ws) ≡ take n (drop a ws)
+  list-is n = let k : a + n - a ≡ n = omega arith in rw k refl
+
+-- ---- the records
 
 accepted-not-refused : (e : Fault) → _≡_ {A = Answer} (Accepted 0) (Refused e) → ⊥
 accepted-not-refused e q = let z : _≡_ {A = ℕ} 0 1 = cc in omega arith
@@ -63,15 +79,27 @@ module _ {t : Table} {rows : List Row} {pool : List ℤ} {stack : List ℕ} (fit
             asked = λ d. w;
           }
 
-  -- an answer that leaves the tables
-  pub asked : (f : Frame) → parse ws ≡ framed f → {r : Answer} {model′ : List ℕ} → settled (spelled t rows pool stack) f (check (spelled t rows pool stack) f) .state ≡ spelled t rows pool stack →
+  -- an answer that leaves the tables: SAT and UNSAT keep the state, whatever their check says
+  kept : (s : State) (f : Frame) → next s f ≡ s → (k : Check) → settled s f k .state ≡ s
+  kept s f q Passed = q
+  kept s f q (Failed e) = refl
+
+  pub asked : (f : Frame) → parse ws ≡ framed f → next (spelled t rows pool stack) f ≡ spelled t rows pool stack → {r : Answer} {model′ : List ℕ} →
       Answered t rows pool stack f r model model′ → Steps t rows pool stack ws (record { answer = r; table = t }) rows pool stack model model′
   unfolding outcome
   asked f p q a = record {
     answered = rw p (a .answered);
     fit = fit;
-    state = rw p (sym q);
+    state = rw p (sym (kept (spelled t rows pool stack) f q (check (spelled t rows pool stack) f)));
     handed = rw p (a .handed);
     left = λ e d. unchanged;
     asked = λ d. unchanged;
   }
+
+  -- an answer that hands out no model
+  pub answered-only : (f : Frame) → hands (spelled t rows pool stack) f ≡ untouched → {r : Answer} → r ≡ answer-of (check (spelled t rows pool stack) f) → Answered t rows pool stack f r model model
+  answered-only f h {r} e = by-check (check (spelled t rows pool stack) f) refl
+    where
+      by-check : (k : Check) → check (spelled t rows pool stack) f ≡ k → Answered t rows pool stack f r model model
+      by-check Passed q = record { answered = rw (q, h) (e ∙ ap answer-of q); handed = rw (q, h) refl }
+      by-check (Failed g) q = record { answered = rw q (e ∙ ap answer-of q); handed = rw q refl }

@@ -6,7 +6,6 @@ ghost use Rattle.rules.specs.Frames.{ADD, LEARN, FORGET, PROMOTE, DROP, WEAKEN,
 ghost use Rattle.rules.specs.Answers.{check};
 ghost use Rattle.table.specs.Spelled.{Fit, spelled};
 ghost use Rattle.steps.specs.Applied.{Answered, Applied, Steps, accepted-with, answer-of, refused-with};
-
 use frame::Head;
 use judge::Judged;
 use rules::Answer;
@@ -40,7 +39,14 @@ fn accepted(table: Table) -> Stepped
 
 // ---- the operations that write: judge, then apply
 
-fn add(rows: &mut [[u32; 5]], pool: &mut [i32], stack: &[u32], t: Table, id: u32, c: &[i32]) -> Stepped
+fn add(
+    rows: &mut [[u32; 5]],
+    pool: &mut [i32],
+    stack: &[u32],
+    t: Table,
+    id: u32,
+    c: &[i32],
+) -> Stepped
     requires { ⌜ Fit t (now rows) (now pool) (now stack) × (length (now c) ≤ 256) ⌝ }
     ensures { λ r. ⌜ Applied t (now (rows .entry)) (now (pool .entry)) (now (stack .entry)) (ADD id (now (c .entry))) r (now (rows .exit)) (now (pool .exit)) (now (stack .entry)) ⌝ }
 {
@@ -51,7 +57,15 @@ fn add(rows: &mut [[u32; 5]], pool: &mut [i32], stack: &[u32], t: Table, id: u32
     accepted(table::append(rows, pool, t, 0, id, c))
 }
 
-fn learn(rows: &mut [[u32; 5]], pool: &mut [i32], stack: &[u32], t: Table, id: u32, c: &[i32], hints: &[i32]) -> Stepped
+fn learn(
+    rows: &mut [[u32; 5]],
+    pool: &mut [i32],
+    stack: &[u32],
+    t: Table,
+    id: u32,
+    c: &[i32],
+    hints: &[i32],
+) -> Stepped
     requires { ⌜ Fit t (now rows) (now pool) (now stack) × (length (now c) ≤ 256) × (length (now hints) ≤ 4096) ⌝ }
     ensures { λ r. ⌜ Applied t (now (rows .entry)) (now (pool .entry)) (now (stack .entry)) (LEARN id (now (c .entry)) (now (hints .entry))) r (now (rows .exit)) (now (pool .exit)) (now (stack .entry)) ⌝ }
 {
@@ -84,7 +98,14 @@ fn promote(rows: &mut [[u32; 5]], pool: &[i32], stack: &[u32], t: Table, id: u32
     }
 }
 
-fn drop_clause(rows: &mut [[u32; 5]], pool: &[i32], stack: &[u32], t: Table, id: u32, hints: &[i32]) -> Stepped
+fn drop_clause(
+    rows: &mut [[u32; 5]],
+    pool: &[i32],
+    stack: &[u32],
+    t: Table,
+    id: u32,
+    hints: &[i32],
+) -> Stepped
     requires { ⌜ Fit t (now rows) (now pool) (now stack) × (length (now hints) ≤ 4096) ⌝ }
     ensures { λ r. ⌜ Applied t (now (rows .entry)) (now (pool .entry)) (now (stack .entry)) (DROP id (now (hints .entry))) r (now (rows .exit)) (now (pool .entry)) (now (stack .entry)) ⌝ }
 {
@@ -95,7 +116,15 @@ fn drop_clause(rows: &mut [[u32; 5]], pool: &[i32], stack: &[u32], t: Table, id:
     }
 }
 
-fn weaken(rows: &mut [[u32; 5]], pool: &mut [i32], stack: &mut [u32], t: Table, id: u32, w: &[i32], ws: &[i32]) -> Stepped
+fn weaken(
+    rows: &mut [[u32; 5]],
+    pool: &mut [i32],
+    stack: &mut [u32],
+    t: Table,
+    id: u32,
+    w: &[i32],
+    ws: &[i32],
+) -> Stepped
     requires { ⌜ Fit t (now rows) (now pool) (now stack) × (length (now w) ≤ 256) × (3 + length (now w) + length (now ws) ≤ 4096) ⌝ }
     ensures { λ r. ⌜ Applied t (now (rows .entry)) (now (pool .entry)) (now (stack .entry)) (WEAKEN id (now (w .entry)) (now (ws .entry))) r (now (rows .exit)) (now (pool .exit)) (now (stack .exit)) ⌝ }
 {
@@ -120,7 +149,15 @@ fn restore(rows: &mut [[u32; 5]], pool: &[i32], stack: &mut [u32], t: Table, id:
 // ---- the answers, which write no table
 
 // SAT: the offered assignment is mended by the walk down the stack; only an accepted one writes the model.
-fn sat(rows: &[[u32; 5]], pool: &[i32], stack: &[u32], t: Table, assumed: &[i32], vs: &[i32], model: &mut [u64; 32]) -> Answer
+fn sat(
+    rows: &[[u32; 5]],
+    pool: &[i32],
+    stack: &[u32],
+    t: Table,
+    assumed: &[i32],
+    vs: &[i32],
+    model: &mut [u64; 32],
+) -> Answer
     requires { ⌜ Fit t (now rows) (now pool) (now stack) × (length (now assumed) ≤ 256) × (length (now vs) ≤ 4096) ⌝ }
     ensures { λ r. ⌜ Answered t (now (rows .entry)) (now (pool .entry)) (now (stack .entry)) (SAT (now (assumed .entry)) (now (vs .entry))) r (now (model .entry)) (now (model .exit)) ⌝ }
 {
@@ -138,7 +175,14 @@ fn sat(rows: &[[u32; 5]], pool: &[i32], stack: &[u32], t: Table, assumed: &[i32]
     Answer::Accepted(changed)
 }
 
-fn unsat(rows: &[[u32; 5]], pool: &[i32], stack: &[u32], t: Table, assumed: &[i32], hints: &[i32]) -> Answer
+fn unsat(
+    rows: &[[u32; 5]],
+    pool: &[i32],
+    stack: &[u32],
+    t: Table,
+    assumed: &[i32],
+    hints: &[i32],
+) -> Answer
     requires { ⌜ Fit t (now rows) (now pool) (now stack) × (length (now assumed) ≤ 256) × (length (now hints) ≤ 4096) ⌝ }
     ensures { λ r. ⌜ r ≡ answer-of (check (spelled t (now (rows .entry)) (now (pool .entry)) (now (stack .entry))) (UNSAT (now (assumed .entry)) (now (hints .entry)))) ⌝ }
 {
@@ -152,7 +196,14 @@ fn unsat(rows: &[[u32; 5]], pool: &[i32], stack: &[u32], t: Table, assumed: &[i3
 // ---- the dispatcher
 
 // One frame of any words, by the head that it has.
-pub fn step(rows: &mut [[u32; 5]], pool: &mut [i32], stack: &mut [u32], t: Table, frame: &[i32], model: &mut [u64; 32]) -> Stepped
+pub fn step(
+    rows: &mut [[u32; 5]],
+    pool: &mut [i32],
+    stack: &mut [u32],
+    t: Table,
+    frame: &[i32],
+    model: &mut [u64; 32],
+) -> Stepped
     requires { ⌜ Fit t (now rows) (now pool) (now stack) ⌝ }
     ensures { λ r. ⌜ Steps t (now (rows .entry)) (now (pool .entry)) (now (stack .entry)) (now (frame .entry)) r (now (rows .exit)) (now (pool .exit)) (now (stack .exit)) (now (model .entry)) (now (model .exit)) ⌝ }
 {
