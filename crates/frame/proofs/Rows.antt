@@ -70,9 +70,9 @@ module _ (ws : List ℤ) where
     named : positive (word ws 1) ≡ true
     named = positive-is (word ws 1) (omega arith)
 
-    pub add-reads : 2 ≤ length ws → length ws ≤ 258 → Reads (row 1 ws) ws (head.Add i)
+    pub add-reads : 2 ≤ length ws → length ws ≤ 258 → i ≤ 2147483647 → Reads (row 1 ws) ws (head.Add i)
     unfolding frame-of Inside framed-if
-    add-reads h k = record { frame = let n = named in let m = le-leb (length ws - 2) 256 (omega arith) in rw (n, m, e); inside = (h, k) }
+    add-reads h k l = record { frame = let n = named in let m = le-leb (length ws - 2) 256 (omega arith) in rw (n, m, e); inside = (h, k, l) }
 
     pub add-long : 258 < length ws → Reads (row 1 ws) ws head.Malformed
     unfolding framed-if
@@ -100,9 +100,9 @@ module _ (ws : List ℤ) where
     unfolding frame-of Inside
     restore-reads = pair-reads RESTORE (head.Restore i) refl tt
 
-    pub learn-reads : (n : ℕ) → Counts 0 ws 2 (Of n) → length ws ≤ 4096 → Reads (row 2 ws) ws (head.Learn i n)
+    pub learn-reads : (n : ℕ) → Counts 0 ws 2 (Of n) → length ws ≤ 4096 → i ≤ 2147483647 → Reads (row 2 ws) ws (head.Learn i n)
     unfolding frame-of Inside framed-if
-    learn-reads n k m = record { frame = let a = named in let b = k .0 in let c = k .1 in rw (a, b, c, ← e); inside = (k .2, k .3, m) }
+    learn-reads n k m l = record { frame = let a = named in let b = k .0 in let c = k .1 in rw (a, b, c, ← e); inside = (k .2, k .3, m, l) }
 
     pub weaken-reads : (n : ℕ) → Counts 1 ws 2 (Of n) → length ws ≤ 4096 → Reads (row 6 ws) ws (head.Weaken i n)
     unfolding frame-of Inside framed-if

@@ -38,11 +38,11 @@ frame-of (head.Unsat n) ws = framed (UNSAT (take n (drop 2 ws)) (drop (2 + n) ws
 abbrev pub pair : ℕ → Head → Head
 pair n h = cond (eqb n 2) h head.Malformed
 
--- its lists lie inside the words, and are short
+-- its lists lie inside the words, and are short; the id of a new clause is one
 unfoldable pub Inside : Head → ℕ → Type 0
 Inside head.Malformed n = Unit {0}
-Inside (head.Add i) n = (2 ≤ n) × (n ≤ 258)
-Inside (head.Learn i k) n = (3 + k ≤ n) × (k ≤ 256) × (n ≤ 4096)
+Inside (head.Add i) n = (2 ≤ n) × (n ≤ 258) × (i ≤ 2147483647)
+Inside (head.Learn i k) n = (3 + k ≤ n) × (k ≤ 256) × (n ≤ 4096) × (i ≤ 2147483647)
 Inside (head.Forget i) n = Unit {0}
 Inside (head.Promote i) n = Unit {0}
 Inside (head.Drop i) n = (2 ≤ n) × (n ≤ 4096)

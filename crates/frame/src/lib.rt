@@ -62,7 +62,7 @@ fn pair_head(n: usize, head: Head) -> Head
 
 // Operations 1 to 7: word 1 is an id.
 fn named_head(frame: &[i32], op: usize, id: u32) -> Head
-    requires { ⌜ (1 ≤ op) × (op ≤ 7) × (getD least-words (op - 1) 0 ≤ length (now frame)) × (length (now frame) ≤ 4096) × (0 < id) × (id ≡ number (word (now frame) 1)) ⌝ }
+    requires { ⌜ (1 ≤ op) × (op ≤ 7) × (getD least-words (op - 1) 0 ≤ length (now frame)) × (length (now frame) ≤ 4096) × (0 < id) × (id ≡ number (word (now frame) 1)) × (id ≤ 2147483647) ⌝ }
     ensures { λ r. ⌜ Reads (row op (now (frame .entry))) (now (frame .entry)) r ⌝ }
 {
     let n = frame.len();

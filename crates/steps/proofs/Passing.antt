@@ -15,7 +15,7 @@ use Rattle.rules.specs.declared.Check.{Check}
 use Rattle.rules.specs.declared.Check.the-variants.{Passed, Failed}
 use Rattle.rules.specs.declared.Answer.the-variants.{Accepted, Refused}
 use Rattle.rules.proofs.Checks.{then-left, then-right, need-true, flaw-clause}
-use Rattle.table.specs.Spelled.{Row, row-at, id-of, held, clauses, held-rows, spelled, Fit, Moved, Weakenable}
+use Rattle.table.specs.Spelled.{Row, row-at, id-of, held, clauses, held-rows, spelled, Fit, Moved, New, Weakenable}
 use Rattle.table.specs.declared.Table.{Table}
 use Rattle.table.proofs.Readers.{count-held, words-held}
 use Rattle.rules.specs.Lists.{any}
@@ -34,6 +34,7 @@ module _ {t : Table} {rows : List Row} {pool : List ℤ} {stack : List ℕ} (f :
     answered = sym (ap answer-of q);
     moved = λ p. let z : _≡_ {A = ℕ} 0 1 = cc in absurd (omega arith);
     left = λ d p. record { table = refl; same-rows = refl; same-pool = refl; same-stack = refl };
+    told = refl;
   }
 
   pub accepted : {t′ : Table} {rows′ : List Row} {pool′ : List ℤ} {stack′ : List ℕ} → check (spelled t rows pool stack) f ≡ Passed → Moved t rows pool stack t′ rows′ pool′ stack′ f → Applied t rows pool stack f (accepted-with t′) rows′ pool′ stack′
@@ -41,6 +42,7 @@ module _ {t : Table} {rows : List Row} {pool : List ℤ} {stack : List ℕ} (f :
     answered = sym (ap answer-of q);
     moved = λ p. m;
     left = λ d p. let z : _≡_ {A = ℕ} 0 1 = cc in absurd (omega arith);
+    told = refl;
   }
 
 -- ---- a frame that names a held clause
@@ -79,10 +81,10 @@ weakenable {t} {rows} {pool} {stack} fit {i} {k} w ws short o e =
 pub record NewClause (t : Table) (rows : List Row) (pool : List ℤ) (i : ℕ) (c : List ℤ) : Type 0 where
   pub entry : t .count < length rows
   pub words : t .words + length c ≤ length pool
-  pub new : t .highest < i
+  pub new : New t i
   pub clause : is-clause (t .vars) c ≡ true
 
-module _ {t : Table} {rows : List Row} {pool : List ℤ} {stack : List ℕ} (fit : Fit t rows pool stack) (i : ℕ) (c : List ℤ) (short : length c ≤ 256) where
+module _ {t : Table} {rows : List Row} {pool : List ℤ} {stack : List ℕ} (fit : Fit t rows pool stack) (i : ℕ) (c : List ℤ) (short : length c ≤ 256) (known : i ≤ 2147483647) where
   abbrev st : State
   st = spelled t rows pool stack
 
@@ -91,7 +93,7 @@ module _ {t : Table} {rows : List Row} {pool : List ℤ} {stack : List ℕ} (fit
   new-clause at a b d e = record {
     entry = let h = ltb-true (length (everything st)) (length rows) (need-true _ _ d) in omega (arith, count-held fit);
     words = let h = leb-true (room (everything st) + length c) (length pool) (need-true _ _ e) in omega (arith, words-held fit);
-    new = ltb-true (t .highest) i (need-true _ _ b);
+    new = (ltb-true (t .highest) i (need-true _ _ b), known);
     clause = flaw-clause (t .vars) at c short a;
   }
 

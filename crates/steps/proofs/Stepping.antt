@@ -1,6 +1,5 @@
 -- From a frame's application to what a frame's words come to.
 use mathlib.Core.Path.{_≡_, refl, sym, _∙_, ap}
-use mathlib.Core.Bool.{true, false, true≢false}
 use mathlib.Core.List.{List}
 use Prim.Native.Nat.{ℕ, _+_, _-_, _≤_}
 use native.Mathlib.Omega.{arith}
@@ -18,8 +17,10 @@ use Rattle.rules.specs.declared.Answer.{Answer}
 use Rattle.rules.specs.declared.Answer.the-variants.{Accepted, Refused}
 use Rattle.table.specs.Spelled.{Row, spelled, Fit}
 use Rattle.table.specs.declared.Table.{Table}
-use Rattle.steps.specs.Applied.{answer-of, refused-with, Same, Applied, Answered, Steps, asks}
+use Rattle.steps.specs.Applied.{answer-of, refused-with, unless-refused, answered-with, Same, Applied, Answered, Steps, writes}
 use Rattle.steps.specs.declared.Stepped.{Stepped}
+use Rattle.steps.specs.declared.Written.{Written}
+use Rattle.steps.specs.declared.Written.the-variants.{Nothing, Tables}
 
 -- ---- the frame's lists, as slices of its words
 
@@ -35,34 +36,28 @@ module _ (a : ℕ) (ws : List ℤ) where
 
 -- ---- the records
 
-accepted-not-refused : (e : Fault) → _≡_ {A = Answer} (Accepted 0) (Refused e) → ⊥
-accepted-not-refused e q = let z : _≡_ {A = ℕ} 0 1 = cc in omega arith
-
 module _ {t : Table} {rows : List Row} {pool : List ℤ} {stack : List ℕ} (fit : Fit t rows pool stack) (ws : List ℤ) (model : List ℕ) where
   unchanged : Same t rows pool stack t rows pool stack
   unchanged = record { table = refl; same-rows = refl; same-pool = refl; same-stack = refl }
 
   pub no-frame : parse ws ≡ malformed → Steps t rows pool stack ws (refused-with Malformed t) rows pool stack model model
   unfolding outcome
-  no-frame p = record { answered = rw p; fit = fit; state = rw p; handed = rw p refl; left = λ e q. unchanged; asked = λ q. unchanged }
+  no-frame p = record { answered = rw p; fit = fit; state = rw p; handed = rw p refl; told = refl; left = λ n. unchanged }
 
   -- a frame that writes and hands nothing out
-  pub applied : (f : Frame) → parse ws ≡ framed f → hands (spelled t rows pool stack) f ≡ untouched → asks (framed f) ≡ false → {r : Stepped} {rows′ : List Row} {pool′ : List ℤ} {stack′ : List ℕ} →
+  pub applied : (f : Frame) → parse ws ≡ framed f → hands (spelled t rows pool stack) f ≡ untouched → writes (framed f) ≡ Tables → {r : Stepped} {rows′ : List Row} {pool′ : List ℤ} {stack′ : List ℕ} →
       Applied t rows pool stack f r rows′ pool′ stack′ → Steps t rows pool stack ws r rows′ pool′ stack′ model model
   unfolding outcome
   applied f p h n {r} {rows′} {pool′} {stack′} a = by-check (check (spelled t rows pool stack) f) refl
     where
-      no-question : asks (parse ws) ≡ true → ⊥
-      no-question d = true≢false (sym d ∙ ap asks p ∙ n)
-
       by-check : (k : Check) → check (spelled t rows pool stack) f ≡ k → Steps t rows pool stack ws r rows′ pool′ stack′ model model
       by-check Passed q = record {
         answered = rw (p, q, h) (a .answered ∙ ap answer-of q);
         fit = a .moved q .fit;
         state = rw (p, q) (a .moved q .state);
         handed = rw (p, q, h) refl;
-        left = λ e d. absurd (accepted-not-refused e (sym (a .answered ∙ ap answer-of q) ∙ d));
-        asked = λ d. absurd (no-question d);
+        told = rw (p, n) (a .told);
+        left = λ d. absurd (d (a .told ∙ ap (unless-refused Tables) (a .answered ∙ ap answer-of q)));
       }
       by-check (Failed e) q =
           let w = a .left e q in
@@ -75,8 +70,8 @@ module _ {t : Table} {rows : List Row} {pool : List ℤ} {stack : List ℕ} (fit
             fit = rw (wt, wr, wp, wk) fit;
             state = rw (p, q, wt, wr, wp, wk);
             handed = rw (p, q) refl;
-            left = λ d g. w;
-            asked = λ d. w;
+            told = rw (p, n) (a .told);
+            left = λ d. w;
           }
 
   -- an answer that leaves the tables: SAT and UNSAT keep the state, whatever their check says
@@ -84,16 +79,16 @@ module _ {t : Table} {rows : List Row} {pool : List ℤ} {stack : List ℕ} (fit
   kept s f q Passed = q
   kept s f q (Failed e) = refl
 
-  pub asked : (f : Frame) → parse ws ≡ framed f → next (spelled t rows pool stack) f ≡ spelled t rows pool stack → {r : Answer} {model′ : List ℕ} →
-      Answered t rows pool stack f r model model′ → Steps t rows pool stack ws (record { answer = r; table = t }) rows pool stack model model′
+  pub asked : (f : Frame) → parse ws ≡ framed f → next (spelled t rows pool stack) f ≡ spelled t rows pool stack → (w : Written) → writes (framed f) ≡ w → {r : Answer} {model′ : List ℕ} →
+      Answered t rows pool stack f r model model′ → Steps t rows pool stack ws (answered-with r w t) rows pool stack model model′
   unfolding outcome
-  asked f p q a = record {
+  asked f p q w n a = record {
     answered = rw p (a .answered);
     fit = fit;
     state = rw p (sym (kept (spelled t rows pool stack) f q (check (spelled t rows pool stack) f)));
     handed = rw p (a .handed);
-    left = λ e d. unchanged;
-    asked = λ d. unchanged;
+    told = rw (p, n) refl;
+    left = λ d. unchanged;
   }
 
   -- an answer that hands out no model

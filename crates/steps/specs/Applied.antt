@@ -1,6 +1,5 @@
 -- A frame, judged and applied: the paper's answer; where it passes, the tables spell the paper's next state; where it does not, they are as they were.
 use mathlib.Core.Path.{_≡_}
-use mathlib.Core.Bool.{Bool, true, false}
 use mathlib.Core.List.{List}
 use Prim.Native.Nat.{ℕ}
 use lib.IntN.{ℤ}
@@ -15,6 +14,8 @@ use Rattle.words.specs.Words.{assigned}
 use Rattle.table.specs.Spelled.{Row, spelled, Fit, Moved}
 use Rattle.table.specs.declared.Table.{Table}
 use Rattle.steps.specs.declared.Stepped.{Stepped}
+use Rattle.steps.specs.declared.Written.{Written}
+use Rattle.steps.specs.declared.Written.the-variants.{Nothing, Tables, Model}
 
 -- the answer to a frame that hands out no model
 abbrev pub answer-of : Check → Answer
@@ -22,10 +23,18 @@ answer-of Passed = Accepted 0
 answer-of (Failed e) = Refused e
 
 abbrev pub refused-with : Fault → Table → Stepped
-refused-with e t = record { answer = Refused e; table = t }
+refused-with e t = record { answer = Refused e; table = t; written = Nothing }
 
 abbrev pub accepted-with : Table → Stepped
-accepted-with t = record { answer = Accepted 0; table = t }
+accepted-with t = record { answer = Accepted 0; table = t; written = Tables }
+
+-- what was written, by what an accepted one writes
+abbrev pub unless-refused : Written → Answer → Written
+unless-refused w (Accepted n) = w
+unless-refused w (Refused e) = Nothing
+
+abbrev pub answered-with : Answer → Written → Table → Stepped
+answered-with a w t = record { answer = a; table = t; written = unless-refused w a }
 
 pub record Same (t : Table) (rows : List Row) (pool : List ℤ) (stack : List ℕ) (t′ : Table) (rows′ : List Row) (pool′ : List ℤ) (stack′ : List ℕ) : Type 0 where
   pub table : t′ ≡ t
@@ -37,6 +46,7 @@ pub record Applied (t : Table) (rows : List Row) (pool : List ℤ) (stack : List
   pub answered : r .answer ≡ answer-of (check (spelled t rows pool stack) f)
   pub moved : check (spelled t rows pool stack) f ≡ Passed → Moved t rows pool stack (r .table) rows′ pool′ stack′ f
   pub left : (e : Fault) → check (spelled t rows pool stack) f ≡ Failed e → Same t rows pool stack (r .table) rows′ pool′ stack′
+  pub told : r .written ≡ unless-refused Tables (r .answer)
 
 -- the model buffer, of 32 words: the mended assignment's after an accepted SAT, else as it was
 abbrev pub Wrote : Handed → List ℕ → List ℕ → Type 0
@@ -48,24 +58,25 @@ pub record Answered (t : Table) (rows : List Row) (pool : List ℤ) (stack : Lis
   pub answered : r ≡ settled (spelled t rows pool stack) f (check (spelled t rows pool stack) f) .answer
   pub handed : Wrote (settled (spelled t rows pool stack) f (check (spelled t rows pool stack) f) .handed) model model′
 
--- "SAT and UNSAT never write the tables"
-abbrev pub asks : Parsed → Bool
-asks malformed = false
-asks (framed (ADD i c)) = false
-asks (framed (LEARN i c hints)) = false
-asks (framed (FORGET i)) = false
-asks (framed (PROMOTE i)) = false
-asks (framed (DROP i hints)) = false
-asks (framed (WEAKEN i w ws)) = false
-asks (framed (RESTORE i)) = false
-asks (framed (SAT assumed vs)) = true
-asks (framed (UNSAT assumed hints)) = true
+-- "SAT and UNSAT never write the tables; only an accepted SAT writes the model buffer": what an accepted frame writes
+abbrev pub writes : Parsed → Written
+writes malformed = Nothing
+writes (framed (ADD i c)) = Tables
+writes (framed (LEARN i c hints)) = Tables
+writes (framed (FORGET i)) = Tables
+writes (framed (PROMOTE i)) = Tables
+writes (framed (DROP i hints)) = Tables
+writes (framed (WEAKEN i w ws)) = Tables
+writes (framed (RESTORE i)) = Tables
+writes (framed (SAT assumed vs)) = Model
+writes (framed (UNSAT assumed hints)) = Nothing
 
--- a frame's words: the paper's answer, the state that the tables spell after it, and the model buffer; a refusal, SAT and UNSAT leave every word of the tables
+-- a frame's words: the paper's answer, the state that the tables spell after it, the model buffer, and what was written; whatever did not write the tables
+-- left every word of them
 pub record Steps (t : Table) (rows : List Row) (pool : List ℤ) (stack : List ℕ) (ws : List ℤ) (r : Stepped) (rows′ : List Row) (pool′ : List ℤ) (stack′ : List ℕ) (model model′ : List ℕ) : Type 0 where
   pub answered : r .answer ≡ outcome (spelled t rows pool stack) ws .answer
   pub fit : Fit (r .table) rows′ pool′ stack′
   pub state : spelled (r .table) rows′ pool′ stack′ ≡ outcome (spelled t rows pool stack) ws .state
   pub handed : Wrote (outcome (spelled t rows pool stack) ws .handed) model model′
-  pub left : (e : Fault) → r .answer ≡ Refused e → Same t rows pool stack (r .table) rows′ pool′ stack′
-  pub asked : asks (parse ws) ≡ true → Same t rows pool stack (r .table) rows′ pool′ stack′
+  pub told : r .written ≡ unless-refused (writes (parse ws)) (r .answer)
+  pub left : (r .written ≡ Tables → ⊥) → Same t rows pool stack (r .table) rows′ pool′ stack′

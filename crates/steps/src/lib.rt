@@ -5,7 +5,7 @@ ghost use lib.ListN.{length};
 ghost use Rattle.rules.specs.Frames.{ADD, LEARN, FORGET, PROMOTE, DROP, WEAKEN, RESTORE, SAT, UNSAT};
 ghost use Rattle.rules.specs.Answers.{check};
 ghost use Rattle.table.specs.Spelled.{Fit, spelled};
-ghost use Rattle.steps.specs.Applied.{Answered, Applied, Steps, accepted-with, answer-of, refused-with};
+ghost use Rattle.steps.specs.Applied.{Answered, Applied, Steps, accepted-with, answer-of, answered-with, refused-with};
 use frame::Head;
 use judge::Judged;
 use rules::Answer;
@@ -13,10 +13,18 @@ use rules::Check;
 use rules::Fault;
 use table::Table;
 
-// The answer, and the numbers beside the tables after it.
+// What a frame wrote: an accepted SAT the model buffer, an accepted change the tables, everything else nothing.
+pub enum Written {
+    Nothing,
+    Tables,
+    Model,
+}
+
+// The answer, the numbers beside the tables after it, and what was written.
 pub struct Stepped {
     pub answer: Answer,
     pub table: Table,
+    pub written: Written,
 }
 
 fn refused(fault: Fault, table: Table) -> Stepped
@@ -25,6 +33,7 @@ fn refused(fault: Fault, table: Table) -> Stepped
     Stepped {
         answer: Answer::Refused(fault),
         table,
+        written: Written::Nothing,
     }
 }
 
@@ -34,6 +43,25 @@ fn accepted(table: Table) -> Stepped
     Stepped {
         answer: Answer::Accepted(0),
         table,
+        written: Written::Tables,
+    }
+}
+
+// An answer to SAT or UNSAT; `written` is what an accepted one wrote.
+fn answered(answer: Answer, written: Written, table: Table) -> Stepped
+    ensures { λ r. ⌜ r ≡ answered-with answer written table ⌝ }
+{
+    match answer {
+        Answer::Accepted(_) => Stepped {
+            answer,
+            table,
+            written,
+        },
+        Answer::Refused(_) => Stepped {
+            answer,
+            table,
+            written: Written::Nothing,
+        },
     }
 }
 
@@ -47,7 +75,7 @@ fn add(
     id: u32,
     c: &[i32],
 ) -> Stepped
-    requires { ⌜ Fit t (now rows) (now pool) (now stack) × (length (now c) ≤ 256) ⌝ }
+    requires { ⌜ Fit t (now rows) (now pool) (now stack) × (length (now c) ≤ 256) × (id ≤ 2147483647) ⌝ }
     ensures { λ r. ⌜ Applied t (now (rows .entry)) (now (pool .entry)) (now (stack .entry)) (ADD id (now (c .entry))) r (now (rows .exit)) (now (pool .exit)) (now (stack .entry)) ⌝ }
 {
     let check = judge::judge_add(rows, pool, stack, t, id, c);
@@ -66,7 +94,7 @@ fn learn(
     c: &[i32],
     hints: &[i32],
 ) -> Stepped
-    requires { ⌜ Fit t (now rows) (now pool) (now stack) × (length (now c) ≤ 256) × (length (now hints) ≤ 4096) ⌝ }
+    requires { ⌜ Fit t (now rows) (now pool) (now stack) × (length (now c) ≤ 256) × (length (now hints) ≤ 4096) × (id ≤ 2147483647) ⌝ }
     ensures { λ r. ⌜ Applied t (now (rows .entry)) (now (pool .entry)) (now (stack .entry)) (LEARN id (now (c .entry)) (now (hints .entry))) r (now (rows .exit)) (now (pool .exit)) (now (stack .entry)) ⌝ }
 {
     let check = judge::judge_learn(rows, pool, stack, t, id, c, hints);
@@ -226,12 +254,12 @@ pub fn step(
         Head::Sat(n) => {
             let end = 2 + n;
             let answer = sat(rows, pool, stack, t, &frame[2..end], &frame[end..], model);
-            Stepped { answer, table: t }
+            answered(answer, Written::Model, t)
         }
         Head::Unsat(n) => {
             let end = 2 + n;
             let answer = unsat(rows, pool, stack, t, &frame[2..end], &frame[end..]);
-            Stepped { answer, table: t }
+            answered(answer, Written::Nothing, t)
         }
     }
 }

@@ -19,6 +19,7 @@ module _ (vars : ℕ) (rows : List Row) (pool : List ℤ) (stack : List ℕ) whe
   unfolding only
   empty-fit low high entries words ids = record {
     vars-fit = (low, high);
+    highest-fit = omega arith;
     rows-lent = entries;
     pool-lent = words;
     stack-lent = ids;

@@ -12,7 +12,7 @@ use borrow.Author.Tests.{eq-eqb}
 use Rattle.rules.specs.Terms.{is-clause}
 use Rattle.rules.specs.Frames.{Frame, ADD, LEARN, FORGET, PROMOTE, DROP, RESTORE, plain, next}
 use Rattle.table.specs.Facts.{All, none}
-use Rattle.table.specs.Spelled.{Row, row-at, id-of, place-of, start-of, length-of, witness-of, size, part, clause-part, witness-part, held, stands, held-rows, from-top, spelled, Inside, Lawful, Listed, Core, Fit, Moved, RowHeld, Entry, entry}
+use Rattle.table.specs.Spelled.{Row, row-at, id-of, place-of, start-of, length-of, witness-of, size, part, clause-part, witness-part, held, stands, held-rows, from-top, spelled, Inside, Lawful, Listed, Core, Fit, Moved, New, RowHeld, Entry, entry}
 use Rattle.slices.specs.Writes.{written, closed, Among}
 use Rattle.table.specs.declared.Table.{Table}
 use Rattle.table.proofs.Facts.{all-here, all-more, all-map, all-unmap, total-cut}
@@ -35,16 +35,17 @@ appended t id n = record { vars = t .vars; highest = id; count = t .count + 1; w
 
 module _ {t : Table} {rows : List Row} {pool : List ℤ} {stack : List ℕ} (f : Fit t rows pool stack) where
   -- the lent slices are as long as they were, and V is what it was
-  pub refit : {t′ : Table} {rows′ : List Row} {pool′ : List ℤ} {stack′ : List ℕ} → t′ .vars ≡ t .vars → length rows′ ≡ length rows → length pool′ ≡ length pool → length stack′ ≡ length stack →
+  pub refit : {t′ : Table} {rows′ : List Row} {pool′ : List ℤ} {stack′ : List ℕ} → t′ .vars ≡ t .vars → t′ .highest ≤ 2147483647 → length rows′ ≡ length rows → length pool′ ≡ length pool → length stack′ ≡ length stack →
       t′ .count ≤ length rows → t′ .top ≤ length pool → t′ .depth ≤ length stack →
       Core (t .vars) (t′ .highest) (t′ .top) (t′ .words) (held-rows t′ rows′) pool′ (from-top t′ stack′) → Fit t′ rows′ pool′ stack′
-  refit e a b c x y z k =
+  refit e i a b c x y z k =
       let v = f .vars-fit in
       let p = f .rows-lent in
       let q = f .pool-lent in
       let r = f .stack-lent in
       record {
         vars-fit = (omega arith, omega arith);
+        highest-fit = i;
         rows-lent = omega arith;
         pool-lent = omega arith;
         stack-lent = omega arith;
@@ -65,7 +66,7 @@ module _ {t : Table} {rows : List Row} {pool : List ℤ} {stack : List ℕ} (f :
 
   -- ---- ADD and LEARN: the literals at the tail, a row behind the last
 
-  module _ (id : ℕ) (lits : List ℤ) (room : t .count < length rows) (fits : t .top + length lits ≤ length pool) (new : t .highest < id) (ok : is-clause (t .vars) lits ≡ true) where
+  module _ (id : ℕ) (lits : List ℤ) (room : t .count < length rows) (fits : t .top + length lits ≤ length pool) (new : New t id) (ok : is-clause (t .vars) lits ≡ true) where
     abbrev new-row : ℕ → Row
     new-row p = id ∷ p ∷ t .top ∷ length lits ∷ 0 ∷ []
 
@@ -111,7 +112,7 @@ module _ {t : Table} {rows : List Row} {pool : List ℤ} {stack : List ℕ} (f :
       append-fit : Fit (appended t id (length lits)) rows′ pool′ stack
       append-fit =
           let e = take-next rows (t .count) (new-row p) room in
-          refit refl (length-set rows (t .count) (new-row p)) (length-written pool (t .top) lits (f .pool-fit) fits) refl (omega arith) fits (f .stack-fit)
+          refit refl (new .1) (length-set rows (t .count) (new-row p)) (length-written pool (t .top) lits (f .pool-fit) fits) refl (omega arith) fits (f .stack-fit)
           (rw e (core-put hr [] all-rows (comes p l) (t .words + length lits) _ (omega arith) (unstacked p s)))
 
       append-moves : {g : Frame} → state-of (t .vars) id (length rows) (length pool) (map (entry pool) hr ++ entry-of p id lits [] ∷ []) (from-top t stack)
@@ -182,7 +183,7 @@ module _ {t : Table} {rows : List Row} {pool : List ℤ} {stack : List ℕ} (f :
       remove-fit s =
           let c = take-closed rows at (t .count) h (f .rows-fit) in
           let k = f .rows-fit in
-          refit refl less-rows refl refl (omega arith) (f .pool-fit) (f .stack-fit) (rw c (core-cut us r bs core-at (t .words - size r) _ (omega (arith, size-within)) (listed-cut us r bs core-at s)))
+          refit refl (f .highest-fit) less-rows refl refl (omega arith) (f .pool-fit) (f .stack-fit) (rw c (core-cut us r bs core-at (t .words - size r) _ (omega (arith, size-within)) (listed-cut us r bs core-at s)))
 
       remove-moves : {g : Frame} → stands 2 r ≡ false → state-of (t .vars) (t .highest) (length rows) (length pool) (es ++ fs) (from-top t stack)
           ≡ next (state-of (t .vars) (t .highest) (length rows) (length pool) (es ++ entry-of p (id-of r) (clause-part pool r) [] ∷ fs) (from-top t stack)) g →
@@ -262,7 +263,7 @@ module _ {t : Table} {rows : List Row} {pool : List ℤ} {stack : List ℕ} (f :
         let y = entries-at in
         let z = plain-row us r bs core-at 1 (omega arith) e in
         moved-by
-        (refit refl n refl refl (f .rows-fit) (f .pool-fit) (f .stack-fit) (settle-core (length-of r) (omega arith) own-clause (from-top t stack) l _ (omega (arith, size-within))))
+        (refit refl (f .highest-fit) n refl refl (f .rows-fit) (f .pool-fit) (f .stack-fit) (settle-core (length-of r) (omega arith) own-clause (from-top t stack) l _ (omega (arith, size-within))))
         n
         refl
         (rw (x, y, z) (promoted (t .vars) (t .highest) (length rows) (length pool) es fs (from-top t stack) (id-of r) (clause-part pool r) (earlier us r bs core-at) (later us r bs core-at)))
@@ -304,7 +305,7 @@ module _ {t : Table} {rows : List Row} {pool : List ℤ} {stack : List ℕ} (f :
           let x = settle-entries (length-of r) (omega arith) own-clause (xs ++ ys) left in
           let y = entries-at in
           moved-by
-          (refit refl n refl m (f .rows-fit) (f .pool-fit) (omega arith) (rw o (settle-core (length-of r) (omega arith) own-clause (xs ++ ys) left _ (omega (arith, size-within)))))
+          (refit refl (f .highest-fit) n refl m (f .rows-fit) (f .pool-fit) (omega arith) (rw o (settle-core (length-of r) (omega arith) own-clause (xs ++ ys) left _ (omega (arith, size-within)))))
           n
           refl
           (rw (o, i, x, y, e)

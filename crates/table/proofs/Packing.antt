@@ -12,7 +12,7 @@ use lib.Seq.{take-append-le, length-take-le, take-suc, drop-cons, split-at, getD
 use Rattle.rules.specs.Terms.{State, is-clause}
 use Rattle.rules.specs.Frames.{Frame, ADD, LEARN, next}
 use Rattle.table.specs.Facts.{All, none, both, Pairs, alone, ahead, total}
-use Rattle.table.specs.Spelled.{Row, row-at, id-of, start-of, length-of, witness-of, size, part, clause-part, witness-part, held-rows, Rising, Inside, Clear, Fit, Moved, Entry, entry}
+use Rattle.table.specs.Spelled.{Row, row-at, id-of, start-of, length-of, witness-of, size, part, clause-part, witness-part, held-rows, Rising, Inside, Clear, Fit, Moved, New, Entry, entry}
 use Rattle.slices.specs.Writes.{over, written}
 use Rattle.table.specs.Room.{pointed, packed, joined, Gathered, Roomy}
 use Rattle.table.specs.declared.Table.{Table}
@@ -201,7 +201,7 @@ module _ {t : Table} {rows₀ : List Row} {pool : List ℤ} {stack : List ℕ} (
         let e = rows-after in
         let s = entries-after in
         let c = f .core in
-        refit f refl same-rows same-pool refl (f .rows-fit) fits (f .stack-fit) (record {
+        refit f refl (f .highest-fit) same-rows same-pool refl (f .rows-fit) fits (f .stack-fit) (record {
           rising = rw e (rising-packed 0 (c .rising));
           known = rw e (ids-packed (λ i. (0 < i) × (i ≤ t .highest)) 0 (c .known));
           inside = rw e (inside-packed 0 at (held-rows t rows₀) (omega (arith, g .at-is)));
@@ -239,9 +239,9 @@ module _ {t : Table} {rows : List Row} {pool : List ℤ} {stack : List ℕ} {t�
   moved-after : {t″ : Table} {rows″ : List Row} {pool″ : List ℤ} {g : Frame} → Moved t′ rows′ pool′ stack t″ rows″ pool″ stack g → Moved t rows pool stack t″ rows″ pool″ stack g
   moved-after {g} k = record { fit = k .fit; state = k .state ∙ ap (λ s. next s g) (m .same) }
 
-  module _ (id : ℕ) (lits : List ℤ) (room : t′ .count < length rows′) (fits : t′ .top + length lits ≤ length pool′) (new : t .highest < id) (ok : is-clause (t .vars) lits ≡ true) where
-    still-new : t′ .highest < id
-    still-new = omega (arith, ap (λ (s : State). s .highest) (m .same))
+  module _ (id : ℕ) (lits : List ℤ) (room : t′ .count < length rows′) (fits : t′ .top + length lits ≤ length pool′) (new : New t id) (ok : is-clause (t .vars) lits ≡ true) where
+    still-new : New t′ id
+    still-new = (omega (arith, new .0, ap (λ (s : State). s .highest) (m .same)), new .1)
 
     still-ok : is-clause (t′ .vars) lits ≡ true
     still-ok = let v = ap (λ (s : State). s .vars) (m .same) in rw v ok

@@ -100,7 +100,7 @@ module _ {t : Table} {rows : List Row} {pool : List ℤ} {stack : List ℕ} (f :
     record-fit =
         let e = take-swap rows at (t .count) record-row h (f .rows-fit) in
         let o = on-top in
-        refit f refl (length-set rows at record-row) len₂ (length-set stack (t .depth) (id-of r)) (f .rows-fit) fits (omega arith)
+        refit f refl (f .highest-fit) (length-set rows at record-row) len₂ (length-set stack (t .depth) (id-of r)) (f .rows-fit) fits (omega arith)
         (rw (e, o) (core-put us bs others comes (t .words + (length lits + length wit)) (id-of r ∷ from-top t stack) refl listed))
 
     record-entries : map (entry pool₂) (take (t .count) (set rows at record-row)) ≡ es ++ entry-of 2 (id-of r) lits wit ∷ fs
@@ -141,7 +141,7 @@ module _ {t : Table} {rows : List Row} {pool : List ℤ} {stack : List ℕ} (f :
 
   pub blank-fit : Fit (lessened t (size r₁)) (set rows at (blank-row r₁)) pool stack
   blank-fit =
-      refit f refl (length-set rows at (blank-row r₁)) refl refl (f .rows-fit) (f .pool-fit) (f .stack-fit)
+      refit f refl (f .highest-fit) (length-set rows at (blank-row r₁)) refl refl (f .rows-fit) (f .pool-fit) (f .stack-fit)
       (settle-core f at h 0 (omega arith) empty-clause (from-top t stack) unlisted (t .words - size r₁) (omega (arith, size-within f at h)))
 
   blank-entries : map (entry pool) (take (t .count) (set rows at (blank-row r₁))) ≡ es₁ ++ entry-of 0 (id-of r₁) [] [] ∷ fs₁

@@ -139,6 +139,7 @@ pub record Core (vars highest top words : ℕ) (rows : List Row) (pool : List �
 -- the invariant: the lent sizes and counts, and what is held
 pub record Fit (t : Table) (rows : List Row) (pool : List ℤ) (stack : List ℕ) : Type 0 where
   pub vars-fit : (0 < t .vars) × (t .vars ≤ 2048)
+  pub highest-fit : t .highest ≤ 2147483647
   pub rows-lent : length rows ≤ 1024
   pub pool-lent : length pool ≤ 8192
   pub stack-lent : length rows ≤ length stack
@@ -178,6 +179,10 @@ Located rows i Nothing = (k : ℕ) → k < length rows → id-of (row-at rows k)
 -- `at` is a row held; the numbers that the code leans on
 abbrev pub RowHeld : Table → List Row → ℕ → Type 0
 RowHeld t rows at = (at < t .count) × (t .count ≤ length rows) × (size (row-at rows at) ≤ t .words)
+
+-- "an id, 1 to 2,147,483,647. A new id must be greater than every id accepted before"
+abbrev pub New : Table → ℕ → Type 0
+New t i = (t .highest < i) × (i ≤ 2147483647)
 
 -- what WEAKEN has been judged by: the row is irredundant, the witness is one, and there is room for it
 pub record Weakenable (t : Table) (rows : List Row) (pool : List ℤ) (at : ℕ) (witness : List ℤ) : Type 0 where

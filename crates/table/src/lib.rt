@@ -9,7 +9,7 @@ ghost use Rattle.rules.specs.Terms.{is-clause};
 ghost use Rattle.rules.specs.Frames.{ADD, DROP, FORGET, LEARN, PROMOTE, RESTORE, WEAKEN};
 ghost use Rattle.slices.specs.Writes.{Among, written};
 ghost use Rattle.table.specs.Room.{Gathered, Roomy, blank-row, grown, lessened};
-ghost use Rattle.table.specs.Spelled.{Fit, Fits, Inside, Located, Moved, Rising, RowHeld, Weakenable, clause-part, id-of, place-of, row-at, size, witness-part};
+ghost use Rattle.table.specs.Spelled.{Fit, Fits, Inside, Located, Moved, New, Rising, RowHeld, Weakenable, clause-part, id-of, place-of, row-at, size, witness-part};
 
 // What goes beside the lent tables: V, the highest id accepted, how many rows are held, how many words they hold,
 // how many ids are on the stack, and where the pool's unused tail starts.
@@ -205,9 +205,9 @@ pub fn append(
     lits: &[i32],
 ) -> Table
     requires { ⌜ Fits t (now rows) (now pool) × (t .count < length (now rows)) × (t .words + length (now lits) ≤ length (now pool)) ⌝ }
-    ensures added { λ r. ⌜ (place ≡ 0 → (stack : List ℕ) → Fit t (now (rows .entry)) (now (pool .entry)) stack → t .highest < id → is-clause (t .vars) (now (lits .entry)) ≡ true
+    ensures added { λ r. ⌜ (place ≡ 0 → (stack : List ℕ) → Fit t (now (rows .entry)) (now (pool .entry)) stack → New t id → is-clause (t .vars) (now (lits .entry)) ≡ true
         → Moved t (now (rows .entry)) (now (pool .entry)) stack r (now (rows .exit)) (now (pool .exit)) stack (ADD id (now (lits .entry)))) ⌝ }
-    ensures learned { λ r. ⌜ (place ≡ 1 → (stack : List ℕ) (hints : List ℤ) → Fit t (now (rows .entry)) (now (pool .entry)) stack → t .highest < id → is-clause (t .vars) (now (lits .entry)) ≡ true
+    ensures learned { λ r. ⌜ (place ≡ 1 → (stack : List ℕ) (hints : List ℤ) → Fit t (now (rows .entry)) (now (pool .entry)) stack → New t id → is-clause (t .vars) (now (lits .entry)) ≡ true
         → Moved t (now (rows .entry)) (now (pool .entry)) stack r (now (rows .exit)) (now (pool .exit)) stack (LEARN id (now (lits .entry)) hints)) ⌝ }
 {
     let u = make_room(rows, pool, t, lits.len());

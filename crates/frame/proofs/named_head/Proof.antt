@@ -31,13 +31,13 @@ module _ (s : tie.Start) where
   three-words k e q = let h : getD least-words (k - 1) 0 ≤ length ws = rw q at (s .pre .2) in omega arith
 
   add-here : op ≡ 1 → length ws ≤ 258 → Reads (row op ws) ws (head.Add id)
-  add-here q h = row-of ws op 1 _ q (add-reads ws id (s .pre .4) (s .pre .5) two-words h)
+  add-here q h = row-of ws op 1 _ q (add-reads ws id (s .pre .4) (s .pre .5) two-words h (s .pre .6))
 
   add-too-long : op ≡ 1 → 258 < length ws → Reads (row op ws) ws head.Malformed
   add-too-long q h = row-of ws op 1 _ q (add-long ws id (s .pre .4) (s .pre .5) h)
 
   learn-here : op ≡ 2 → (n : ℕ) → Counts 0 ws 2 (Of n) → Reads (row op ws) ws (head.Learn id n)
-  learn-here q n k = row-of ws op 2 _ q (learn-reads ws id (s .pre .4) (s .pre .5) n k (s .pre .3))
+  learn-here q n k = row-of ws op 2 _ q (learn-reads ws id (s .pre .4) (s .pre .5) n k (s .pre .3) (s .pre .6))
 
   learn-wrong : op ≡ 2 → Counts 0 ws 2 Wrong → Reads (row op ws) ws head.Malformed
   learn-wrong q k = row-of ws op 2 _ q (unlisted ws id (s .pre .4) (s .pre .5) 0 LEARN k)

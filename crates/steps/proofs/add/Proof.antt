@@ -29,7 +29,7 @@ module _ (x : tie.After-enum-told) where
   passed = x .enum-told .given .1
 
   new : NewClause (s j .args .t) (s j .args .rows .now) (s j .args .pool .now) (s j .args .id) (s j .args .c .now)
-  new = add-passed (s j .pre .0) (s j .args .id) (s j .args .c .now) (s j .pre .1) (sym (j .judge-add .ensures) ∙ passed)
+  new = add-passed (s j .pre .0) (s j .args .id) (s j .args .c .now) (s j .pre .1) (s j .pre .2) (sym (j .judge-add .ensures) ∙ passed)
 
 judge-add-requires : tie.Need-judge-add-requires
 judge-add-requires c κs = search needs

@@ -29,7 +29,7 @@ module _ (x : tie.After-enum-told) where
   passed = x .enum-told .given .1
 
   new : NewClause (s j .args .t) (s j .args .rows .now) (s j .args .pool .now) (s j .args .id) (s j .args .c .now)
-  new = learn-passed (s j .pre .0) (s j .args .id) (s j .args .c .now) (s j .pre .1) (s j .args .hints .now) (sym (j .judge-learn .ensures) ∙ passed)
+  new = learn-passed (s j .pre .0) (s j .args .id) (s j .args .c .now) (s j .pre .1) (s j .pre .3) (s j .args .hints .now) (sym (j .judge-learn .ensures) ∙ passed)
 
 judge-learn-requires : tie.Need-judge-learn-requires
 judge-learn-requires c κs = search needs

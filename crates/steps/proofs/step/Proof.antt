@@ -35,7 +35,7 @@ module _ (x : tie.After-known-told) where
   reads-add : Reads (parse (ws p-add)) (ws p-add) (head.Add (x .before .head .given .0 .0))
   reads-add = reads p-add _ (x .before .head .given .1)
 
-  in-add : (2 ≤ length (ws p-add)) × (length (ws p-add) ≤ 258)
+  in-add : (2 ≤ length (ws p-add)) × (length (ws p-add) ≤ 258) × (x .before .head .given .0 .0 ≤ 2147483647)
   unfolding Inside
   in-add = reads-add .inside
 
@@ -50,7 +50,7 @@ module _ (x : tie.After-known-told2) where
   reads-learn : Reads (parse (ws p-learn)) (ws p-learn) (head.Learn (x .before .head2 .given .0 .0) (x .before .head2 .given .0 .1 .0))
   reads-learn = reads p-learn _ (x .before .head2 .given .1)
 
-  in-learn : (3 + (x .before .head2 .given .0 .1 .0) ≤ length (ws p-learn)) × ((x .before .head2 .given .0 .1 .0) ≤ 256) × (length (ws p-learn) ≤ 4096)
+  in-learn : (3 + (x .before .head2 .given .0 .1 .0) ≤ length (ws p-learn)) × ((x .before .head2 .given .0 .1 .0) ≤ 256) × (length (ws p-learn) ≤ 4096) × (x .before .head2 .given .0 .0 ≤ 2147483647)
   unfolding Inside
   in-learn = reads-learn .inside
 
@@ -173,7 +173,7 @@ part-add-end : tie.Need-part-add-end
 part-add-end c = search needs
 
 add-requires : tie.Need-add-requires
-add-requires c κs = let h = in-add (c .before .before .before .before) in (s (p-add (c .before .before .before .before)) .pre, omega (arith, few 2 (ws (p-add (c .before .before .before .before))) (length (ws (p-add (c .before .before .before .before))))))
+add-requires c κs = let h = in-add (c .before .before .before .before) in (s (p-add (c .before .before .before .before)) .pre, omega (arith, few 2 (ws (p-add (c .before .before .before .before))) (length (ws (p-add (c .before .before .before .before))))), h .2)
 
 enum-known-head-2 : tie.Need-enum-known-head-2
 enum-known-head-2 c = search needs
@@ -203,7 +203,7 @@ part-learn-end-2 : tie.Need-part-learn-end-2
 part-learn-end-2 c = search needs
 
 learn-requires : tie.Need-learn-requires
-learn-requires c κs = let x = c .before .before .before .before .before in let h = in-learn x in (s (p-learn x) .pre, omega (arith, few 3 (ws (p-learn x)) (3 + x .before .head2 .given .0 .1 .0)), omega (arith, few (3 + x .before .head2 .given .0 .1 .0) (ws (p-learn x)) (length (ws (p-learn x)))))
+learn-requires c κs = let x = c .before .before .before .before .before in let h = in-learn x in (s (p-learn x) .pre, omega (arith, few 3 (ws (p-learn x)) (3 + x .before .head2 .given .0 .1 .0)), omega (arith, few (3 + x .before .head2 .given .0 .1 .0) (ws (p-learn x)) (length (ws (p-learn x)))), h .3)
 
 enum-known-head-3 : tie.Need-enum-known-head-3
 enum-known-head-3 c = search needs
@@ -298,6 +298,9 @@ part-sat-end-2 c = search needs
 sat-requires : tie.Need-sat-requires
 sat-requires c κs = let x = c .before .before .before .before .before .before in let h = in-sat x in (s (p-sat x) .pre, omega (arith, few 2 (ws (p-sat x)) (2 + x .before .head8 .given .0 .0)), omega (arith, few (2 + x .before .head8 .given .0 .0) (ws (p-sat x)) (length (ws (p-sat x)))))
 
+answered-requires : tie.Need-answered-requires
+answered-requires c κs = search needs
+
 enum-known-head-9 : tie.Need-enum-known-head-9
 enum-known-head-9 c = search needs
 
@@ -327,6 +330,9 @@ part-unsat-end-2 c = search needs
 
 unsat-requires : tie.Need-unsat-requires
 unsat-requires c κs = let x = c .before .before .before .before .before in let h = in-unsat x in (s (p-unsat x) .pre, omega (arith, few 2 (ws (p-unsat x)) (2 + x .before .head9 .given .0 .0)), omega (arith, few (2 + x .before .head9 .given .0 .0) (ws (p-unsat x)) (length (ws (p-unsat x)))))
+
+answered-requires-2 : tie.Need-answered-requires-2
+answered-requires-2 c κs = search needs
 
 returns : tie.Need-returns
 returns c = rw (c .refused .ensures) (no-frame (s (c .before .before .before) .pre) (ws (c .before .before .before)) _ (malformed-head (c .before)))
@@ -425,7 +431,7 @@ same-length-24 : tie.Need-same-length-24
 same-length-24 c = search needs
 
 returns-9 : tie.Need-returns-9
-returns-9 c = let x = c .before .before .before .before .before .before .before in asked (s (p-sat x) .pre) (ws (p-sat x)) _ _ (frame-sat x) refl (c .sat .ensures)
+returns-9 c = let x = c .before .before .before .before .before .before .before .before in rw (c .answered .ensures) (asked (s (p-sat x) .pre) (ws (p-sat x)) _ _ (frame-sat x) refl _ refl (c .before .sat .ensures))
 
 same-length-25 : tie.Need-same-length-25
 same-length-25 c = search needs
@@ -437,7 +443,7 @@ same-length-27 : tie.Need-same-length-27
 same-length-27 c = search needs
 
 returns-10 : tie.Need-returns-10
-returns-10 c = let x = c .before .before .before .before .before .before in let fit = s (p-unsat x) .pre in asked fit (ws (p-unsat x)) _ _ (frame-unsat x) refl (answered-only fit (ws (p-unsat x)) _ _ refl (c .unsat .ensures))
+returns-10 c = let x = c .before .before .before .before .before .before .before in let fit = s (p-unsat x) .pre in rw (c .answered2 .ensures) (asked fit (ws (p-unsat x)) _ _ (frame-unsat x) refl _ refl (answered-only fit (ws (p-unsat x)) _ _ refl (c .before .unsat .ensures)))
 
 pub step-spec : {M : Type 1} → statement M
 step-spec =
@@ -492,6 +498,7 @@ step-spec =
     part-sat-start-2
     part-sat-end-2
     sat-requires
+    answered-requires
     enum-known-head-9
     add-end-4
     sub-unsat
@@ -502,6 +509,7 @@ step-spec =
     part-unsat-start-2
     part-unsat-end-2
     unsat-requires
+    answered-requires-2
     returns
     same-length
     same-length-2
