@@ -10,7 +10,7 @@ use std::time::{Duration, Instant};
 
 const USAGE: &str = "usage: bench [--runs N] PROGRAM";
 /// How often each program is run over a workload; the best run counts.
-const RUNS: usize = 5;
+const RUNS: usize = 7;
 
 type Outcome<T> = Result<T, Box<dyn std::error::Error>>;
 
