@@ -33,8 +33,11 @@ fn frames_of(name: &str, operations: &[i32]) -> (usize, usize) {
 #[test]
 fn all_lines_are_accepted_but_those_that_are_only_read() {
     for workload in all() {
+        let trace = workload.trace();
+        let again = find(&workload.to_string()).unwrap().trace();
+        assert!(trace == again, "{workload} is not the same every time");
         let mut histogram = Histogram::default();
-        histogram.count_trace(&workload.trace());
+        histogram.count_trace(&trace);
         let times = |code| ROWS.iter().map(|&asked| histogram.times(asked, code)).sum();
         let lines = histogram.lines();
         let expected = match workload.to_string().as_str() {
@@ -47,12 +50,8 @@ fn all_lines_are_accepted_but_those_that_are_only_read() {
 }
 
 #[test]
-fn a_workload_is_found_by_its_name_and_is_the_same_every_time() {
+fn there_are_seven_mixes_and_three_curves() {
     assert_eq!(all().len(), 7 + 3 * HELD.len());
-    for workload in all() {
-        let found = find(&workload.to_string()).unwrap();
-        assert!(workload.trace() == found.trace(), "{workload}");
-    }
     assert!(find("learn-17").is_none());
     assert!(find("no-such-kind").is_none());
 }

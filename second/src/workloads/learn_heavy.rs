@@ -1,4 +1,4 @@
-//! LEARN with two to four hints, FORGET, some hundred clauses held.
+//! LEARN with up to four hints, FORGET, some hundred clauses held.
 
 use super::web::{Shape, Web};
 use crate::traces::author::Author;
