@@ -17,3 +17,4 @@ pub mod terms;
 pub mod traces;
 pub mod values;
 pub mod words;
+pub mod workloads;

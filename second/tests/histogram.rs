@@ -1,33 +1,10 @@
 //! Every operation is reached with every code it can give in the line program.
 
-use second::histogram::{Asked, Histogram, CODES, ROWS};
-use second::traces::CLASSES;
+mod common;
 
-/// The codes an operation can give, from the order of refusals in document 01. The others
-/// cannot occur:
-/// - 1: the line program lends itself right tables;
-/// - 3: FORGET, PROMOTE, DROP and RESTORE have no literals, since hints are none;
-/// - 4: SAT and UNSAT name no clause by word 1;
-/// - 5: only ADD, RESTORE and the assumptions of SAT must be clean;
-/// - 6 and 9: only WEAKEN has a witness and groups;
-/// - 7 and 8: only LEARN, DROP, WEAKEN and UNSAT have hints;
-/// - 10 and 11: only SAT offers a model;
-/// - 12: only ADD and LEARN take an entry;
-/// - 13: only ADD, LEARN and WEAKEN take words;
-/// - all but 2: a line or frame without an operation is refused before all else.
-fn reachable(asked: Asked) -> &'static [u32] {
-    match asked {
-        Asked::Operation(1) => &[0, 2, 3, 4, 5, 12, 13],
-        Asked::Operation(2) => &[0, 2, 3, 4, 7, 8, 12, 13],
-        Asked::Operation(3) | Asked::Operation(4) => &[0, 2, 4],
-        Asked::Operation(5) => &[0, 2, 4, 7, 8],
-        Asked::Operation(6) => &[0, 2, 3, 4, 6, 7, 8, 9, 13],
-        Asked::Operation(7) => &[0, 2, 4, 5],
-        Asked::Operation(8) => &[0, 2, 3, 5, 10, 11],
-        Asked::Operation(9) => &[0, 2, 3, 7, 8],
-        _ => &[2],
-    }
-}
+use common::reachable;
+use second::histogram::{Histogram, CODES, ROWS};
+use second::traces::CLASSES;
 
 #[test]
 fn every_reachable_cell_is_reached_and_no_other() {

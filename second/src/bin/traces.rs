@@ -1,17 +1,20 @@
-//! Writes a trace of a class and seed, lists the classes, or counts answers.
+//! Writes a trace of a class and seed or the one that reaches every code, lists the classes, or
+//! counts answers.
 
 use second::histogram::Histogram;
-use second::traces::{find_class, CLASSES};
+use second::traces::{every_code, find_class, CLASSES};
 use std::io::{self, Write};
 use std::process::ExitCode;
 
-const USAGE: &str = "usage: traces CLASS SEED | traces --classes | traces --histogram SEEDS";
+const USAGE: &str = "usage: traces CLASS SEED | traces --every-code | traces --classes | \
+                     traces --histogram SEEDS";
 
 fn main() -> ExitCode {
     let arguments: Vec<String> = std::env::args().skip(1).collect();
     let arguments: Vec<&str> = arguments.iter().map(String::as_str).collect();
     let output = match arguments.as_slice() {
         ["--classes"] => Some(classes()),
+        ["--every-code"] => Some(every_code()),
         ["--histogram", seeds] => seeds.parse().ok().map(histogram),
         [class, seed] => trace(class, seed),
         _ => None,

@@ -3,6 +3,7 @@
 pub mod author;
 mod bad_lines;
 mod edges;
+mod every_code;
 mod faults;
 mod histories;
 mod moves;
@@ -11,6 +12,8 @@ mod spoil;
 
 use crate::lines::opened;
 use author::Author;
+
+pub use every_code::every_code;
 
 /// A kind of trace.
 pub struct Class {

@@ -1,0 +1,44 @@
+//! Writes a workload, lists the kinds, or counts the answers to one.
+
+use second::histogram::Histogram;
+use second::workloads::{all, find};
+use std::io::{self, Write};
+use std::process::ExitCode;
+
+const USAGE: &str = "usage: workload KIND | workload --kinds | workload --answers KIND";
+
+fn main() -> ExitCode {
+    let arguments: Vec<String> = std::env::args().skip(1).collect();
+    let arguments: Vec<&str> = arguments.iter().map(String::as_str).collect();
+    let output = match arguments.as_slice() {
+        ["--kinds"] => Some(kinds()),
+        ["--answers", name] => answers(name),
+        [name] => find(name).map(|workload| workload.trace()),
+        _ => None,
+    };
+    match output.map(|bytes| io::stdout().write_all(&bytes)) {
+        Some(Ok(())) => ExitCode::SUCCESS,
+        Some(Err(error)) => {
+            eprintln!("workload: {error}");
+            ExitCode::FAILURE
+        }
+        None => {
+            eprintln!("{USAGE}");
+            ExitCode::FAILURE
+        }
+    }
+}
+
+fn kinds() -> Vec<u8> {
+    let told = |workload: second::workloads::Workload| {
+        format!("{:14} {}\n", workload.to_string(), workload.kind.about)
+    };
+    all().into_iter().map(told).collect::<String>().into_bytes()
+}
+
+/// Operation by code.
+fn answers(name: &str) -> Option<Vec<u8>> {
+    let mut histogram = Histogram::default();
+    histogram.count_trace(&find(name)?.trace());
+    Some(format!("{histogram}{} lines\n", histogram.lines()).into_bytes())
+}
