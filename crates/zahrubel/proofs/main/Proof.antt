@@ -1,0 +1,142 @@
+-- The buffers keep their sizes, and the tables fit.
+use mathlib.Core.Path.{_≡_, refl, sym}
+use Prim.Native.Nat.{_≤_}
+use native.Mathlib.Omega.{arith}
+use lib.ListN.{length}
+use lib.Seq.{length-take-le}
+use Rattle.table.proofs.Empty.{empty-fit}
+use Rattle.lines.proofs.Replies.{ended-room}
+use Rattle.feed.specs.Replies.{Feedable}
+use borrow.Author.Needs.{needs}
+use Rattle.zahrubel.proofs.main.Statement.{statement}
+use Rattle.zahrubel.proofs.main.Tie as tie
+
+abbrev Inv-loop : tie.InvT-loop
+Inv-loop buf₀ out₀ frame₀ rows₀ pool₀ stack₀ reader₀ table₀ turns₀ buf out frame rows pool stack reader table turns =
+    (65536 ≡ length buf) × (65536 ≡ length out) × (4096 ≡ length frame) × (1024 ≡ length rows) × (8192 ≡ length pool) × (1024 ≡ length stack) × Feedable table rows pool stack reader frame
+
+abbrev μ-loop : tie.MeasureT-loop
+μ-loop buf₀ out₀ frame₀ rows₀ pool₀ stack₀ reader₀ table₀ turns₀ buf out frame rows pool stack reader table turns = turns
+
+large-buffer-requires : tie.Need-large-buffer-requires Inv-loop μ-loop
+large-buffer-requires c κs = search needs
+
+large-buffer-requires-2 : tie.Need-large-buffer-requires-2 Inv-loop μ-loop
+large-buffer-requires-2 c κs = search needs
+
+fresh-requires : tie.Need-fresh-requires Inv-loop μ-loop
+fresh-requires c κs = search needs
+
+loop-holds : tie.Need-loop-holds Inv-loop μ-loop
+loop-holds c = (
+  search needs,
+  search needs,
+  search needs,
+  search needs,
+  search needs,
+  search needs,
+  record { fit = empty-fit 2048 _ _ _ (omega arith) (omega arith) (search needs) (search needs) (search needs); vars = refl; most = omega (arith, c .fresh .ensures .0); wide = search needs },
+)
+
+slice-aggregate-read : tie.Need-slice-aggregate-read Inv-loop μ-loop
+slice-aggregate-read c = search needs
+
+read-requires : tie.Need-read-requires Inv-loop μ-loop
+read-requires c κs = search needs
+
+slice-aggregate-count : tie.Need-slice-aggregate-count Inv-loop μ-loop
+slice-aggregate-count c = search needs
+
+count-requires : tie.Need-count-requires Inv-loop μ-loop
+count-requires c κs = search needs
+
+slice-aggregate-finish : tie.Need-slice-aggregate-finish Inv-loop μ-loop
+slice-aggregate-finish c = search needs
+
+finish-requires : tie.Need-finish-requires Inv-loop μ-loop
+finish-requires c κs = search needs
+
+array-share-prefix-out : tie.Need-array-share-prefix-out Inv-loop μ-loop
+array-share-prefix-out c = omega (arith, ended-room (c .before .before .before .before .before .before .before .before .before .before .loop .reader .digits) (c .before .before .before .before .before .before .before .before .before .before .loop .reader .spoilt) (c .before .finish .ensures))
+
+slice-aggregate-write-all : tie.Need-slice-aggregate-write-all Inv-loop μ-loop
+slice-aggregate-write-all c = sym (length-take-le _ _ (omega (arith, ended-room (c .before .before .before .before .before .before .before .before .before .before .before .loop .reader .digits) (c .before .before .before .before .before .before .before .before .before .before .before .loop .reader .spoilt) (c .before .before .finish .ensures))))
+
+write-all-requires : tie.Need-write-all-requires Inv-loop μ-loop
+write-all-requires c κs = search needs
+
+returns : tie.Need-returns Inv-loop μ-loop
+returns c = search needs
+
+array-share-prefix-buf : tie.Need-array-share-prefix-buf Inv-loop μ-loop
+array-share-prefix-buf c = search needs
+
+slice-aggregate-pump : tie.Need-slice-aggregate-pump Inv-loop μ-loop
+slice-aggregate-pump c = search needs
+
+slice-aggregate-pump-2 : tie.Need-slice-aggregate-pump-2 Inv-loop μ-loop
+slice-aggregate-pump-2 c = search needs
+
+slice-aggregate-pump-3 : tie.Need-slice-aggregate-pump-3 Inv-loop μ-loop
+slice-aggregate-pump-3 c = search needs
+
+slice-aggregate-pump-4 : tie.Need-slice-aggregate-pump-4 Inv-loop μ-loop
+slice-aggregate-pump-4 c = search needs
+
+slice-aggregate-pump-5 : tie.Need-slice-aggregate-pump-5 Inv-loop μ-loop
+slice-aggregate-pump-5 c = search needs
+
+slice-aggregate-pump-6 : tie.Need-slice-aggregate-pump-6 Inv-loop μ-loop
+slice-aggregate-pump-6 c = search needs
+
+pump-requires : tie.Need-pump-requires Inv-loop μ-loop
+pump-requires c κs = search needs
+
+returns-2 : tie.Need-returns-2 Inv-loop μ-loop
+returns-2 c = search needs
+
+sub-turns : tie.Need-sub-turns Inv-loop μ-loop
+sub-turns c = omega (arith, c .before .before .before .before .before .before .before .before .before .before .before .before .before .before .before .before .before .before .before .before .before .before .loop-test .taken)
+
+loop-less : tie.Need-loop-less Inv-loop μ-loop
+loop-less c = omega (arith, c .before .before .before .before .before .before .before .before .before .before .before .before .before .before .before .before .before .before .before .before .before .before .loop-test .taken)
+
+loop-again : tie.Need-loop-again Inv-loop μ-loop
+loop-again c = (search needs, search needs, search needs, search needs, search needs, search needs, c .before .before .before .before .before .before .before .before .before .pump .ensures .0)
+
+returns-3 : tie.Need-returns-3 Inv-loop μ-loop
+returns-3 c = search needs
+
+pub main-spec : {M : Type 1} → statement M
+main-spec =
+    tie.close
+    (tie.spec
+    Inv-loop
+    μ-loop
+    large-buffer-requires
+    large-buffer-requires-2
+    fresh-requires
+    loop-holds
+    slice-aggregate-read
+    read-requires
+    slice-aggregate-count
+    count-requires
+    slice-aggregate-finish
+    finish-requires
+    array-share-prefix-out
+    slice-aggregate-write-all
+    write-all-requires
+    returns
+    array-share-prefix-buf
+    slice-aggregate-pump
+    slice-aggregate-pump-2
+    slice-aggregate-pump-3
+    slice-aggregate-pump-4
+    slice-aggregate-pump-5
+    slice-aggregate-pump-6
+    pump-requires
+    returns-2
+    sub-turns
+    loop-less
+    loop-again
+    returns-3)

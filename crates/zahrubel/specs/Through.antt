@@ -1,0 +1,13 @@
+-- What a part of the input did: line and state are those of the machine's run over its bytes, whatever was written meanwhile.
+use mathlib.Core.Path.{_≡_}
+use mathlib.Core.List.{List, []}
+use Prim.Native.Nat.{ℕ}
+use Rattle.rules.specs.Terms.{State}
+use Rattle.lines.specs.Machine.{Line, Run, run}
+
+abbrev pub ran : Line → State → List ℕ → Run
+ran l s bs = run (record { line = l; state = s; out = [] }) bs
+
+pub record Through (bs : List ℕ) (l : Line) (s : State) (l′ : Line) (s′ : State) : Type 0 where
+  pub line : l′ ≡ ran l s bs .line
+  pub state : s′ ≡ ran l s bs .state
