@@ -8,7 +8,7 @@ use lib.Dec.{eqb}
 use lib.ListN.{length, getD}
 use borrow.Author.Tests.{eqb-true, eqb-false}
 use Rattle.rules.proofs.Lists.{by-cases}
-use Rattle.table.specs.Facts.{All, none, both, Pairs, ahead, total}
+use Rattle.table.specs.Facts.{All, none, both, Pairs, alone, ahead, total}
 
 -- a fact of the numbers below, and of one more
 pub below-next : {P : ℕ → Type 0} (k : ℕ) → ((j : ℕ) → j < k → P j) → P k → (j : ℕ) → j < k + 1 → P j
@@ -82,6 +82,12 @@ map-same {f} {g} (both {x} {xs} p a) = let t : map f xs ≡ map g xs = map-same 
 -- ---- every two elements
 
 module _ {A : Type 0} {R : A → A → Type 0} where
+  pub pairs-index : {xs : List A} → Pairs R xs → (j k : ℕ) (d : A) → j < k → k < length xs → R (getD xs j d) (getD xs k d)
+  pairs-index alone j k d h l = absurd (not-suc-le-zero l)
+  pairs-index (ahead a r) j zero d h l = absurd (not-suc-le-zero h)
+  pairs-index (ahead a r) zero (suc k) d h l = all-index a k d (le-of-suc-le-suc l)
+  pairs-index (ahead a r) (suc j) (suc k) d h l = pairs-index r j k d (le-of-suc-le-suc h) (le-of-suc-le-suc l)
+
   -- what stands before an element, and what stands behind it
   pub pairs-before : (xs : List A) (y : A) (ys : List A) → Pairs R (xs ++ y ∷ ys) → All (λ x. R x y) xs
   pairs-before [] y ys r = none

@@ -1,20 +1,34 @@
 -- What a row that was found says of the places, and what it says that none was found.
 use mathlib.Core.Path.{_≡_, _∙_, ap}
 use mathlib.Core.List.{List, [], _∷_, _++_, map, map-append}
-use Prim.Native.Nat.{ℕ, suc, _<_}
+use Prim.Native.Nat.{ℕ, suc, _+_, _<_}
 use native.Mathlib.Omega.{arith}
 use lib.IntN.{ℤ}
 use lib.ListN.{length, take, drop}
 use lib.Seq.{split-at}
-use borrow.Author.Tests.{eq-eqb}
+use lib.Dec.{eqb, ltb}
+use borrow.Author.Tests.{eq-eqb, eqb-true, eqb-false, ltb-true, ltb-false}
 use mathlib.Core.Bool.{false}
 use Rattle.rules.specs.Terms.{has, fetch}
 use Rattle.rules.proofs.Lists.{by-cases}
 use Rattle.table.specs.Facts.{All}
 use Rattle.table.specs.Spelled.{Row, row-at, id-of, place-of, held, stands, clauses, Rising, Located, Entry, entry}
 use Rattle.table.specs.declared.Found.the-variants.{Nothing}
-use Rattle.table.proofs.Facts.{all-indexed, all-join, all-more, all-map, pairs-before, pairs-after}
+use Rattle.table.proofs.Facts.{below-next, pairs-index, all-indexed, all-join, all-more, all-map, pairs-before, pairs-after}
 use Rattle.table.proofs.Entries.{spell, clauses-spell, spell-unseen, has-here, has-none, fetch-here}
+
+-- the rows up to one of a lesser id have lesser ids, and those from one of a greater id on have greater ones
+module _ {rows : List Row} (rising : Rising rows) (i m : ℕ) (h : m < length rows) where
+  pub below-row : id-of (row-at rows m) < i → (j : ℕ) → j < m + 1 → id-of (row-at rows j) < i
+  below-row l = below-next m (λ j b. let r = pairs-index rising j m [] b h in omega arith) l
+
+  pub none-after : i < id-of (row-at rows m) → ((j : ℕ) → j < m → id-of (row-at rows j) < i) → Located rows i Nothing
+  none-after l b k g e =
+      by-cases (ltb k m)
+      (λ t. let q = b k (ltb-true k m t) in absurd (omega arith))
+      (λ f. let n = ltb-false k m f in by-cases (eqb k m)
+      (λ t. let q = eqb-true k m t in let s : id-of (row-at rows k) ≡ id-of (row-at rows m) = ap (λ n. id-of (row-at rows n)) q in absurd (omega arith))
+      (λ u. let v = eqb-false k m u in let r = pairs-index rising m k [] (omega arith) g in absurd (omega arith)))
 
 module _ (pool : List ℤ) (rows : List Row) where
   -- no row has the id: no place has it

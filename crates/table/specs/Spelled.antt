@@ -169,6 +169,10 @@ pub record Readable (rows : List Row) (pool : List ℤ) : Type 0 where
   pub witness-ranged : (k : ℕ) → k < length rows → all (in-range 2048) (witness-part pool (row-at rows k)) ≡ true
   pub short : (k : ℕ) → k < length rows → (length-of (row-at rows k) ≤ 256) × (witness-of (row-at rows k) ≤ 256)
 
+-- every row before k has a lesser id
+abbrev pub Below : List Row → ℕ → ℕ → Type 0
+Below rows i k = (k ≤ length rows) × ((j : ℕ) → j < k → id-of (row-at rows j) < i)
+
 -- where the id is, or that it is nowhere
 abbrev pub Located : List Row → ℕ → Found → Type 0
 Located rows i (At k) = (k < length rows) × (id-of (row-at rows k) ≡ i)

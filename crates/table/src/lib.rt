@@ -9,7 +9,7 @@ ghost use Rattle.rules.specs.Terms.{is-clause};
 ghost use Rattle.rules.specs.Frames.{ADD, DROP, FORGET, LEARN, PROMOTE, RESTORE, WEAKEN};
 ghost use Rattle.slices.specs.Writes.{Among, written};
 ghost use Rattle.table.specs.Room.{Gathered, Roomy, blank-row, grown, lessened};
-ghost use Rattle.table.specs.Spelled.{Fit, Fits, Inside, Located, Moved, New, Rising, RowHeld, Weakenable, clause-part, id-of, place-of, row-at, size, witness-part};
+ghost use Rattle.table.specs.Spelled.{Below, Fit, Fits, Inside, Located, Moved, New, Rising, RowHeld, Weakenable, clause-part, id-of, place-of, row-at, size, witness-part};
 
 // What goes beside the lent tables: V, the highest id accepted, how many rows are held, how many words they hold,
 // how many ids are on the stack, and where the pool's unused tail starts.
@@ -29,15 +29,35 @@ pub enum Found {
 
 // ---- readers, of the rows that are held: a caller passes &rows[..count]
 
+// A row up to which all ids are less, found in strides of 32 rows.
+fn stride(rows: &[[u32; 5]], id: u32) -> usize
+    requires { ⌜ Rising (now rows) ⌝ }
+    ensures { λ r. ⌜ Below (now (rows .entry)) id r ⌝ }
+{
+    let n = rows.len();
+    let mut k = 0;
+    while 32 <= n - k {
+        if id <= rows[k + 31][0] {
+            break;
+        }
+        k += 32;
+    }
+    k
+}
+
 // The row of an id.
 pub fn find(rows: &[[u32; 5]], id: u32) -> Found
     requires { ⌜ Rising (now rows) ⌝ }
     ensures { λ r. ⌜ Located (now (rows .entry)) id r ⌝ }
 {
-    let mut k = 0;
+    let mut k = stride(rows, id);
     while k < rows.len() {
-        if rows[k][0] == id {
+        let here = rows[k][0];
+        if here == id {
             return Found::At(k);
+        }
+        if id < here {
+            break;
         }
         k += 1;
     }
