@@ -1,9 +1,9 @@
 -- What the two loops share that copy between the lent table and the rows: the turn's number, the list after so many turns, and the slot of the rows, taken
 -- apart into its elements and put together again.
 use mathlib.Core.Path.{_≡_, refl, _∙_, sym, ap, subst}
-use mathlib.Core.List.{List, [], _∷_, _++_, map}
+use mathlib.Core.List.{List, [], _∷_, _++_, map, map-append}
 use mathlib.Core.WellFounded.{WellFounded, InvImage·wf}
-use Prim.Native.Nat.{ℕ, _+_, _-_, _<_, _≤_}
+use Prim.Native.Nat.{ℕ, zero, suc, _+_, _-_, _<_, _≤_}
 use native.Mathlib.Omega.{arith}
 use lib.ListN.{length, getD, set, take, drop as drop-list, length-append, length-drop, length-map, List·getD-map}
 use lib.Seq.{length-take-le, getD-take}
@@ -18,12 +18,16 @@ use types.Kit.{Given, Item, Goal, Go, Seq, ‵, _$_, !, move, drop, use1, rewrit
 use types.Share.{arr-parts}
 use denote.Laws.{Is, shows}
 use denote.Memory.{cellAt, partAt, partOf, shares}
+use denote.Array.{each}
 use denote.ArrayMemory.{array-apart, array-whole}
 use denote.Index.{row}
+use denote.Shadow.{shadow}
 use denote.Steps.{owned, peeks}
 use Rattle.slices.specs.Writes.{over}
 use Rattle.slices.proofs.Slices.{over-next, over-last}
 use Rattle.table.specs.Spelled.{Row}
+use Rattle.entries.specs.Lent.{entry-of, row-of, row-of-entry}
+use Rattle.entries.specs.declared.Entry.{Entry}
 use Rattle.entries.proofs.Values.{R, Rows, rows-ty, rows-val, rows-vals, rows-tells, rows-makes}
 
 -- ---- a turn's number, at most n; the variant is what is left
@@ -58,6 +62,26 @@ module _ {A B : Type 0} (f : A → B) (s : List A) (n : ℕ) (d : List B) where
 
     pub length-copied : (i : ℕ) → i ≤ n → length (copied i) ≡ length d
     length-copied i h = omega (arith, length-append (take i (map f (take n s))) (drop-list i d), length-take-le i (map f (take n s)) (omega (arith, length-made)), length-drop i d)
+
+-- ---- what was put over a list, seen through f
+
+map-drop : {A B : Type 0} (f : A → B) (n : ℕ) (l : List A) → map f (drop-list n l) ≡ drop-list n (map f l)
+map-drop f zero l = refl
+map-drop f (suc n) [] = refl
+map-drop f (suc n) (x ∷ l) = map-drop f n l
+
+map-over : {A B : Type 0} (f : A → B) (d s : List A) → map f (over d s) ≡ over (map f d) (map f s)
+map-over f d s = map-append f s (drop-list (length s) d) ∙ ap (λ (r : List _). map f s ++ r) (map-drop f (length s) d ∙ ap (λ (k : ℕ). drop-list k (map f d)) (sym (length-map s f)))
+
+-- rows that have machine values are of five numbers, so that their entries' rows are they
+rows-again : (n : ℕ) (rows : List Row) (us : List Val) → shadow (each Row (R .own) rows us) → map row-of (map entry-of (take n rows)) ≡ take n rows
+rows-again zero rows us h = refl
+rows-again (suc n) [] us h = refl
+rows-again (suc n) (r ∷ rows) [] h = absurd h
+rows-again (suc n) (r ∷ rows) (u ∷ us) h = rw (row-of-entry r (h .0 .1 .0 .1), rows-again n rows us (h .1))
+
+pub put-rows : (n : ℕ) (rows : List Row) → Is Rows rows (rows-vals rows) → (ys zs : List Entry) → zs ≡ over ys (map entry-of (take n rows)) → map row-of zs ≡ over (map row-of ys) (take n rows)
+put-rows n rows is ys zs e = ap (map row-of) e ∙ map-over row-of ys (map entry-of (take n rows)) ∙ ap (over (map row-of ys)) (rows-again n rows (is .0) (is .1 .1))
 
 -- ---- the slot of the rows
 

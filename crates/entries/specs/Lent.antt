@@ -2,8 +2,9 @@
 use mathlib.Core.Path.{_≡_, refl}
 use mathlib.Core.List.{List, [], _∷_}
 use Prim.Native.Nat.{ℕ}
+use native.Mathlib.Omega.{arith}
 use lib.IntN.{ℤ}
-use lib.ListN.{getD, replicate}
+use lib.ListN.{length, getD, replicate}
 use Rattle.table.specs.Spelled.{Row, id-of, place-of, start-of, length-of, witness-of, clause-part, witness-part}
 use Rattle.entries.specs.declared.Entry.{Entry}
 
@@ -19,8 +20,14 @@ entry-of r = record { id = id-of r; place = place-of r; start = start-of r; leng
 pub entry-of-row : (e : Entry) → entry-of (row-of e) ≡ e
 entry-of-row e = refl
 
-pub row-of-entry : (a b c d w : ℕ) → row-of (entry-of (a ∷ b ∷ c ∷ d ∷ w ∷ [])) ≡ a ∷ b ∷ c ∷ d ∷ w ∷ []
-row-of-entry a b c d w = refl
+pub row-of-entry : (r : Row) → length r ≡ 5 → row-of (entry-of r) ≡ r
+row-of-entry (a ∷ b ∷ c ∷ d ∷ w ∷ []) h = refl
+row-of-entry [] h = absurd (omega arith)
+row-of-entry (a ∷ []) h = absurd (omega arith)
+row-of-entry (a ∷ b ∷ []) h = absurd (omega arith)
+row-of-entry (a ∷ b ∷ c ∷ []) h = absurd (omega arith)
+row-of-entry (a ∷ b ∷ c ∷ d ∷ []) h = absurd (omega arith)
+row-of-entry (a ∷ b ∷ c ∷ d ∷ w ∷ x ∷ r) h = absurd (omega arith)
 
 -- ---- what holds nothing
 

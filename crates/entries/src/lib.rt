@@ -129,10 +129,11 @@ pub fn take_in(entries: &[Entry]) -> [[u32; 5]; 1024]
     rows
 }
 
-// The first n rows, as entries, over the first n of the table.
+// The first n rows, as entries, over the first n of the table; so the table's rows are then these over those that it had.
 pub fn put_back(entries: &mut [Entry], n: usize, rows: [[u32; 5]; 1024])
     requires { ⌜ (n ≤ length (now entries)) × (n ≤ 1024) ⌝ }
-    ensures { λ _. ⌜ now (entries .exit) ≡ over (now (entries .entry)) (map entry-of (take n rows)) ⌝ }
+    ensures { λ _. ⌜ (now (entries .exit) ≡ over (now (entries .entry)) (map entry-of (take n rows)))
+        × (map row-of (now (entries .exit)) ≡ over (map row-of (now (entries .entry))) (take n rows)) ⌝ }
 {
     let mut k = 0;
     while k < n {

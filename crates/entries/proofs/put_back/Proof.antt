@@ -51,7 +51,7 @@ use Rattle.table.specs.Spelled.{Row, row-at}
 use Rattle.entries.specs.Lent.{vacant, entry-of}
 use Rattle.entries.specs.declared.Entry.{Entry}
 use Rattle.entries.proofs.Calls.{answers}
-use Rattle.entries.proofs.Copying.{Turn, _≺_, ≺-wf, copied, copied-next, copied-last, length-copied, taken-apart, put-together}
+use Rattle.entries.proofs.Copying.{Turn, _≺_, ≺-wf, copied, copied-next, copied-last, length-copied, put-rows, taken-apart, put-together}
 use Rattle.entries.proofs.Values.{E, entry-ty, entry-vals, entry-tells, entry-makes, entry-typed, R, row-ty, row-vals, row-tells, row-makes, row-typed, Rows, rows-ty, rows-val, rows-vals, rows-tells, rows-makes, rows-typed}
 use Rattle.entries.proofs.as_entry as as-entry
 use Rattle.entries.proofs.as_entry.Symbol as as-entry-def
@@ -104,7 +104,7 @@ module _ {M : Type 1} (𝓤 : URA M) (H : Heap 𝓤) (A : Atoms 𝓤) (W : Given
         → ent 𝓤 (⋆ 𝓤 H A (‵ (fobs γ (codedHoleys E .code (heres E z))) ∷ ‵ (fbor κ (Held E (length z) b o γ)) ∷ ‵ (flft κ q) ∷ [])) (Post vunit)
     exits z e l =
         qed W (‵ (fobs γ (codedHoleys E .code (heres E z))) ∷ ‵ (fbor κ (Held E (length z) b o γ)) ∷ ‵ (flft κ q) ∷ []) ∵
-        suffices ! _ (ends-at 𝓤 H A put-back.ended stayed (put-back.clauses 𝓤 H A mem run) W (((κ, tt), (q, tt), tt, x, vals), tt) vunit tt (z, (tt, (tt, tt))) (l, (tt, (tt, tt)))) $ says ! e $
+        suffices ! _ (ends-at 𝓤 H A put-back.ended stayed (put-back.clauses 𝓤 H A mem run) W (((κ, tt), (q, tt), tt, x, vals), tt) vunit tt (z, (tt, (tt, tt))) (l, (tt, (tt, tt)))) $ says ! (e, put-rows n rows is ys z e) $
         nothing ! $ move ! (3 ∷ 0 ∷ []) $ join ! $ frame ! $
         fjoin ! $ pureI ! (at-slice E (record { ptr = (b, o); name = γ; now = z }) (vals .0)) (tt, (tt, tt)) (ap (λ (m : ℕ). sliceVal (b, o) m ∷ []) (sym l), subst (Room E) (sym l) room) $ fjoin ! $
         nothing ! $ owned ! Rows (Is Rows) (rows-makes 𝓤 H A W) rows _ is $ fjoin ! $
