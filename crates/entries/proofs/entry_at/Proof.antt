@@ -80,7 +80,7 @@ module _ {M : Type 1} (𝓤 : URA M) (H : Heap 𝓤) (A : Atoms 𝓤) (W : Given
         pass1 ! (init ! 12 refl (tt, (tt, (record { fits = gn .0 }, tt)))) $ pass1 ! (init ! 10 refl (tt, record { fits = gi })) $ pass0 ! $ move ! (17 ∷ []) $ fsplit ! $ move ! (18 ∷ []) $ split ! $
         assigns ! (of-opd ! (load ! (from ! (fld ! refl (stop !))) (look-in ! 16 (sub ! 1 refl (whole !))))) (from ! (stop !)) (init ! 12 refl (tt, record { fits = gn .0 })) $
         assigns ! (bin ! (load ! (from ! (stop !)) (look ! 14 refl)) (load ! (from ! (stop !)) (look ! 12 refl)) tt) (from ! (stop !)) (init ! 10 refl (tt, tt)) $
-        -- [K; T_; OT; OI; _7; _6; _5; _4; _3; _2; _1; _0]
+        -- [the token; true; what the table owns; what i owns; _7; …; _0, and behind each that it dies]
         first ! $ branches ! (load ! (from ! (stop !)) (look ! 10 refl))
         (λ small.
         let l : i < length ys = ltb→lt i (length ys) small in
