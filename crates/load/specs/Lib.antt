@@ -1,0 +1,2 @@
+-- What loading promises.
+pub mod Loads
