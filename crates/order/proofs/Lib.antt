@@ -1,0 +1,2 @@
+-- The laws of the sort.
+pub mod Shuffles
