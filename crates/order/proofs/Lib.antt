@@ -1,2 +1,3 @@
 -- The laws of the sort.
 pub mod Shuffles
+pub mod Alike
