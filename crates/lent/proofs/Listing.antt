@@ -90,7 +90,7 @@ module _ (p : ℕ) (pool : List ℤ) where
 -- ---- the list
 
 -- no id twice
-abbrev Once : List ℕ → Type 0
+abbrev pub Once : List ℕ → Type 0
 Once ids = Pairs (λ i j. j ≡ i → ⊥) ids
 
 once-reverse : (ids : List ℕ) → Once ids → Once (reverse ids)
@@ -108,17 +108,33 @@ listed-whole (i ∷ ids) hs s (both k m) (ahead d o) n =
     ap (λ (l : List Held). place (fetch hs i) (settled l)) same ∙ ap (place (fetch hs i)) rest ∙ place-back hs i s k
 
 module _ (ids : List ℕ) (stacked : List Held) where
-  abbrev differ : ℕ → ℕ → Bool
-  differ i j = not (eqb j i)
+  abbrev each-test : Bool
+  each-test = all (has stacked) ids
+
+  abbrev once-test : Bool
+  once-test = every-two (λ i j. not (eqb j i)) ids
+
+  abbrev many-test : Bool
+  many-test = eqb (length ids) (length stacked)
+
+  module _ (h : lists ids stacked ≡ true) where
+    pub lists-each : All (λ i. has stacked i ≡ true) ids
+    lists-each = all-fact (λ i m. m) ids (and-left each-test (once-test && many-test) h)
+
+    pub lists-once : Once ids
+    lists-once = two-fact (λ i j n. eqb-false j i (not-true n)) ids (and-left once-test many-test (and-right each-test (once-test && many-test) h))
+
+    pub lists-many : length ids ≡ length stacked
+    lists-many = eqb-true (length ids) (length stacked) (and-right once-test many-test (and-right each-test (once-test && many-test) h))
+
+  pub lists-all : All (λ i. has stacked i ≡ true) ids → Once ids → length ids ≡ length stacked → lists ids stacked ≡ true
+  lists-all m o n = and-both (all-test (λ i h. h) m) (and-both (two-test (λ i j d. let e = ne-eqb j i d in rw e) o) (eq-eqb (length ids) (length stacked) n))
 
   lists-fact : rising stacked ≡ true → lists ids stacked ≡ true → Listed stacked (reverse ids)
   lists-fact s h =
-      let t = and-right (all (has stacked) ids) (every-two differ ids && eqb (length ids) (length stacked)) h in
-      let each = all-reverse (all-fact (λ i m. m) ids (and-left (all (has stacked) ids) _ h)) in
-      let apart = two-fact (λ i j n. eqb-false j i (not-true n)) ids (and-left (every-two differ ids) (eqb (length ids) (length stacked)) t) in
-      let once = once-reverse ids apart in
-      let many = eqb-true (length ids) (length stacked) (and-right (every-two differ ids) (eqb (length ids) (length stacked)) t) in
-      record { each = each; once = once; whole = listed-whole (reverse ids) stacked s each once (length-reverse ids ∙ many) }
+      let each = all-reverse (lists-each h) in
+      let once = once-reverse ids (lists-once h) in
+      record { each = each; once = once; whole = listed-whole (reverse ids) stacked s each once (length-reverse ids ∙ lists-many h) }
 
   -- as many ids as clauses
   pub listed-length : Listed stacked (reverse ids) → length ids ≡ length stacked
@@ -127,8 +143,7 @@ module _ (ids : List ℕ) (stacked : List Held) where
   pub lists-test : Listed stacked (reverse ids) → lists ids stacked ≡ true
   lists-test l =
       let e = reverse-reverse ids in
-      let once = rw e at (once-reverse (reverse ids) (l .once)) in
-      and-both (all-test (λ i m. m) (all-unreverse ids (l .each))) (and-both (two-test (λ i j n. let d = ne-eqb j i n in rw d) once) (eq-eqb (length ids) (length stacked) (listed-length l)))
+      lists-all (all-unreverse ids (l .each)) (rw e at (once-reverse (reverse ids) (l .once))) (listed-length l)
 
 -- of rows by rising id
 pub stack-fact : (ids : List ℕ) (pool : List ℤ) (rows : List Row) → Rising rows → lists ids (clauses 2 pool rows) ≡ true → Listed (clauses 2 pool rows) (reverse ids)
