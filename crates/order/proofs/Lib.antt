@@ -1,0 +1,3 @@
+-- The laws of the sort.
+pub mod Shuffles
+pub mod Alike
