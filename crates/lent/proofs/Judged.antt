@@ -1,6 +1,6 @@
 -- The tests of a row, or of two, and the facts that the working table keeps of them.
 use mathlib.Core.Path.{_≡_, refl}
-use mathlib.Core.Logic.{_⊎_}
+use mathlib.Core.Logic.{_⊎_, ⊎-elim}
 use mathlib.Core.Bool.{true, _||_, false≢true}
 use mathlib.Core.List.{List, [], _∷_}
 use Prim.Native.Nat.{ℕ, zero, suc, _+_, _<_, _≤_}
@@ -63,6 +63,10 @@ module _ (vars : ℕ) (h : Held) where
 
 pub inside-fact : (words : ℕ) (r : Row) → inside words r ≡ true → (size r ≡ 0) ⊎ Inside words r
 inside-fact words r h = or-fact (eqb (size r) 0) (leb (start-of r + size r) words) (eqb-true (size r) 0) (leb-true (start-of r + size r) words) h
+
+-- a part with words ends inside the pool
+pub inside-filled : (words : ℕ) (r : Row) → inside words r ≡ true → start-of r < start-of r + size r → start-of r + size r ≤ words
+inside-filled words r h k = ⊎-elim (λ (z : size r ≡ 0). absurd (omega arith)) (λ z. z) (inside-fact words r h)
 
 pub inside-test : (top words : ℕ) (r : Row) → top ≤ words → Inside top r → inside words r ≡ true
 inside-test top words r h i = or-right (eqb (size r) 0) _ (le-leb (start-of r + size r) words (omega arith))

@@ -114,12 +114,12 @@ module _ {A : Type 0} where
 
 -- ---- a list of marks
 
+pub or-none : (b : Bool) → b ≡ (b || false)
+or-none true = refl
+or-none false = refl
+
 -- one more is marked
 pub set-mark : (marks : List Bool) (k m : ℕ) → k < length marks → getD (set marks k true) m false ≡ (getD marks m false || eqb m k)
 set-mark marks k m h = by-cases (eqb m k)
     (λ e. let q = eqb-true m k e in rw q (getD-set-same marks k true false h ∙ sym (or-right (getD marks k false) (eqb k k) (eq-eqb k k refl))))
     (λ e. rw e (getD-set-other marks k m true false (eqb-false m k e) ∙ or-none (getD marks m false)))
-  where
-    or-none : (b : Bool) → b ≡ (b || false)
-    or-none true = refl
-    or-none false = refl

@@ -1,12 +1,14 @@
 // What is lent and carried: that no two parts of the pool overlap, and that the stack lists each stacked clause once.
 ghost use mathlib.Core.Path.{_≡_};
+ghost use mathlib.Core.Bool.{true};
 ghost use mathlib.Core.List.{List};
-ghost use Prim.Native.Nat.{_≤_};
+ghost use Prim.Native.Nat.{_<_, _≤_};
 ghost use lib.IntN.{ℤ};
 ghost use lib.ListN.{length};
-ghost use Rattle.rules.specs.Lists.{only};
+ghost use Rattle.rules.specs.Lists.{all, only};
 ghost use Rattle.table.specs.Spelled.{Rising, clauses, stands};
-ghost use Rattle.lent.specs.State.{lists};
+ghost use Rattle.lent.specs.Marks.{Takes};
+ghost use Rattle.lent.specs.State.{clear, every-two, inside, lists};
 use table::Found;
 
 // What goes beside the lent tables: V, the highest id accepted, how many entries are held, how many words they hold, how many ids are on the stack,
@@ -18,6 +20,49 @@ pub struct Carried {
     pub words: u32,
     pub depth: u32,
     pub stack: [u32; 1024],
+}
+
+// ---- the parts of the pool
+
+fn wide(x: u32) -> usize
+    ensures { λ r. ⌜ (r ≡ x) × (r ≤ 4294967295) ⌝ }
+{
+    x as usize
+}
+
+// Marks the words of a part, from start to end; or false, where one of them was marked already. An empty part may lie anywhere.
+fn mark_part(marks: &mut [bool], start: usize, end: usize) -> bool
+    requires { ⌜ (start ≤ end) × (start < end → end ≤ length (now marks)) ⌝ }
+    ensures { λ r. ⌜ Takes (now (marks .entry)) start end r (now (marks .exit)) ⌝ }
+{
+    let mut j = start;
+    while j < end {
+        if marks[j] {
+            return false;
+        }
+        marks[j] = true;
+        j += 1;
+    }
+    true
+}
+
+// Whether no two parts overlap: no part has a word that an earlier part marked.
+pub fn are_apart(rows: &[[u32; 5]], words: usize) -> bool
+    requires { ⌜ (all (inside words) (now rows) ≡ true) × (words ≤ 8192) ⌝ }
+    ensures { λ r. ⌜ r ≡ every-two clear (now (rows .entry)) ⌝ }
+{
+    let mut marks = [false; 8192];
+    let mut i = 0;
+    while i < rows.len() {
+        let row = rows[i];
+        let start = wide(row[2]);
+        let end = start + (wide(row[3]) + wide(row[4]));
+        if !mark_part(&mut marks, start, end) {
+            return false;
+        }
+        i += 1;
+    }
+    true
 }
 
 // ---- the stack

@@ -20,17 +20,17 @@ abbrev μ-loop : tie.MeasureT-loop
 
 -- what was looked for, and what was found
 module _ (x : tie.After-find Inv-loop μ-loop) where
+  abbrev at : tie.At-loop Inv-loop μ-loop
+  at = x .before .before .before
+
   abbrev s : tie.Start Inv-loop μ-loop
-  s = x .before .before .before .before .before .before .before
+  s = at .before .before .before .before
 
-  abbrev ticked : Ticked (s .args .rows .now) (s .args .ids .now) (x .before .before .before .loop .marks) (x .before .before .before .loop .j)
-  ticked = x .before .before .before .loop .inv
-
-  more : x .before .before .before .loop .j < length (s .args .ids .now)
+  more : at .loop .j < length (s .args .ids .now)
   more = x .before .before .loop-test .taken
 
-  located : {f : Found} → x .find .result ≡ f → Located (s .args .rows .now) (getD (s .args .ids .now) (x .before .before .before .loop .j) 0) f
-  located e = subst (λ f. Located (s .args .rows .now) (getD (s .args .ids .now) (x .before .before .before .loop .j) 0) f) e (x .find .ensures)
+  located : {f : Found} → x .find .result ≡ f → Located (s .args .rows .now) (getD (s .args .ids .now) (at .loop .j) 0) f
+  located e = subst (λ f. Located (s .args .rows .now) (getD (s .args .ids .now) (at .loop .j) 0) f) e (x .find .ensures)
 
 -- it was found in row k
 module _ (x : tie.After-known-told Inv-loop μ-loop) where
@@ -40,7 +40,7 @@ module _ (x : tie.After-known-told Inv-loop μ-loop) where
   abbrev k : ℕ
   k = x .before .k .given .0 .0
 
-  located-at : Located (s found .args .rows .now) (getD (s found .args .ids .now) (found .before .before .before .loop .j) 0) (At k)
+  located-at : Located (s found .args .rows .now) (getD (s found .args .ids .now) (at found .loop .j) 0) (At k)
   located-at = located found (x .before .k .given .1)
 
   low : k < 1024
@@ -73,7 +73,7 @@ enum-told c = search needs
 returns-2 : tie.Need-returns-2 Inv-loop μ-loop
 returns-2 c =
     let x = c .before .before in
-    unstacked _ _ (ticked x) (more x) (λ pool. nowhere pool _ _ (located x (c .enum-told .given .1)) 2)
+    unstacked _ _ (at x .loop .inv) (more x) (λ pool. nowhere pool _ _ (located x (c .enum-told .given .1)) 2)
 
 place-at-requires : tie.Need-place-at-requires Inv-loop μ-loop
 place-at-requires c κs = located-at c .0
@@ -81,7 +81,7 @@ place-at-requires c κs = located-at c .0
 returns-3 : tie.Need-returns-3 Inv-loop μ-loop
 returns-3 c =
     let x = c .before .before in
-    misplaced _ _ (ticked (found x)) (more (found x)) (s (found x) .pre .0) (k x) (located-at x) (λ e. c .if2 .taken (c .before .place-at .ensures ∙ e))
+    misplaced _ _ (at (found x) .loop .inv) (more (found x)) (s (found x) .pre .0) (k x) (located-at x) (λ e. c .if2 .taken (c .before .place-at .ensures ∙ e))
 
 array-read-if3 : tie.Need-array-read-if3 Inv-loop μ-loop
 array-read-if3 c = low (c .before .before)
@@ -89,7 +89,7 @@ array-read-if3 c = low (c .before .before)
 returns-4 : tie.Need-returns-4 Inv-loop μ-loop
 returns-4 c =
     let x = c .before .before .before in
-    repeated _ _ (ticked (found x)) (more (found x)) (s (found x) .pre .0) (k x) (located-at x) (c .if3 .taken)
+    repeated _ _ (at (found x) .loop .inv) (more (found x)) (s (found x) .pre .0) (k x) (located-at x) (c .if3 .taken)
 
 array-write-marks : tie.Need-array-write-marks Inv-loop μ-loop
 array-write-marks c = low (c .before .before .before)
@@ -104,7 +104,7 @@ loop-again : tie.Need-loop-again Inv-loop μ-loop
 loop-again c =
     let p = c .before .before in
     let x = p .before in
-    ticked-next _ _ (ticked (found x)) (more (found x)) (s (found x) .pre .0) (k x) (located-at x) (sym (p .place-at .ensures) ∙ c .before .if2 .left) (c .if3 .left)
+    ticked-next _ _ (at (found x) .loop .inv) (more (found x)) (s (found x) .pre .0) (k x) (located-at x) (sym (p .place-at .ensures) ∙ c .before .if2 .left) (c .if3 .left)
 
 returns-5 : tie.Need-returns-5 Inv-loop μ-loop
 returns-5 c = ticked-end _ _ (c .before .loop .inv) (search needs) (c .before .before .if1 .left ∙ c .before .before .before .count-stacked .ensures)
