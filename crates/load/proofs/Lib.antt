@@ -1,2 +1,3 @@
 -- The laws of loading: what is asked of one row (Rights).
 pub mod Rights
+pub mod States
