@@ -9,7 +9,7 @@ ghost use Rattle.table.specs.Facts.{All, total};
 ghost use Rattle.table.specs.Spelled.{Inside, Rising, held, place-of, row-at, size};
 ghost use Rattle.lent.specs.State.{clear, every-two, inside, lawful};
 ghost use Rattle.order.specs.Orders.{is-tidy};
-ghost use Rattle.load.specs.Loads.{Loads};
+ghost use Rattle.load.specs.Loads.{Loads, StackLent};
 ghost use Rattle.load.specs.Rights.{right};
 use lent::Carried;
 use rules::Check;
@@ -140,22 +140,9 @@ fn end_of(rows: &[[u32; 5]]) -> usize
 
 // ---- the state
 
-fn count(ids: &[u32]) -> usize
-    ensures { λ r. ⌜ r ≡ length (now (ids .entry)) ⌝ }
-{
-    ids.len()
-}
-
-// How many ids the stack has room for: that an array is as long as its type says is told where it is made a slice.
-fn stack_room(stack: &[u32; 1024]) -> usize
-    ensures { λ r. ⌜ (r ≡ 1024) × (length (now (stack .entry)) ≡ 1024) ⌝ }
-{
-    count(stack)
-}
-
 // Rows by rising id against what is carried: a working table, or no state.
 fn judge(rows: &[[u32; 5]], pool: &[i32], c: Carried) -> Loaded
-    requires { ⌜ Rising (now rows) × (all is-tidy (now rows) ≡ true) × (c .count ≡ length (now rows)) × (length (now rows) ≤ 1024) × (length (now pool) ≤ 8192) ⌝ }
+    requires { ⌜ Rising (now rows) × (all is-tidy (now rows) ≡ true) × StackLent c × (c .count ≡ length (now rows)) × (length (now rows) ≤ 1024) × (length (now pool) ≤ 8192) ⌝ }
     ensures { λ r. ⌜ Loads c (now (rows .entry)) (now (pool .entry)) r (now (rows .entry)) ⌝ }
 {
     let vars = order::wide(c.vars);
@@ -179,9 +166,6 @@ fn judge(rows: &[[u32; 5]], pool: &[i32], c: Carried) -> Loaded
     }
     let stack = c.stack;
     let depth = order::wide(c.depth);
-    if stack_room(&stack) < depth {
-        return Loaded::NoState;
-    }
     if !lent::lists_each_once(rows, &stack[..depth]) {
         return Loaded::NoState;
     }
@@ -194,4 +178,44 @@ fn judge(rows: &[[u32; 5]], pool: &[i32], c: Carried) -> Loaded
         depth: c.depth,
         top: top,
     })
+}
+
+// The rows, all of them held, brought into rising order and judged.
+fn load_held(rows: &mut [[u32; 5]], pool: &[i32], c: Carried) -> Loaded
+    requires { ⌜ StackLent c × (c .count ≡ length (now rows)) × (length (now rows) ≤ 1024) × (length (now pool) ≤ 8192) ⌝ }
+    ensures { λ r. ⌜ Loads c (now (rows .entry)) (now (pool .entry)) r (now (rows .exit)) ⌝ }
+{
+    if !order::arrange(rows) {
+        return Loaded::NoState;
+    }
+    judge(rows, pool, c)
+}
+
+fn count(ids: &[u32]) -> usize
+    ensures { λ r. ⌜ r ≡ length (now (ids .entry)) ⌝ }
+{
+    ids.len()
+}
+
+// How many ids the stack has room for: that an array is as long as its type says is told where it is made a slice.
+fn stack_room(stack: &[u32; 1024]) -> usize
+    ensures { λ r. ⌜ (r ≡ 1024) × (length (now (stack .entry)) ≡ 1024) ⌝ }
+{
+    count(stack)
+}
+
+// Brings the rows held into rising order and judges them.
+pub fn load(rows: &mut [[u32; 5]], pool: &[i32], c: Carried) -> Loaded
+    requires { ⌜ (length (now rows) ≤ 1024) × (length (now pool) ≤ 8192) ⌝ }
+    ensures { λ r. ⌜ Loads c (now (rows .entry)) (now (pool .entry)) r (now (rows .exit)) ⌝ }
+{
+    let count = order::wide(c.count);
+    if rows.len() < count {
+        return Loaded::NoState;
+    }
+    let stack = c.stack;
+    if stack_room(&stack) < order::wide(c.depth) {
+        return Loaded::NoState;
+    }
+    load_held(&mut rows[..count], pool, c)
 }
