@@ -18,7 +18,7 @@ use Rattle.lent.specs.State.{every-two, other-id, known, lawful, inside,
 
 -- ---- "held ids are distinct": an earlier id is another
 
-pub other-test : (r x : Row) → id-of r < id-of x → other-id r x ≡ true
+other-test : (r x : Row) → id-of r < id-of x → other-id r x ≡ true
 other-test r x h = let e = ne-eqb (id-of x) (id-of r) (λ (z : id-of x ≡ id-of r). omega arith) in rw e
 
 -- ---- "positive and not above the highest accepted"

@@ -14,7 +14,7 @@ use Rattle.rules.specs.Terms.{Held, has, fetch, rising}
 use Rattle.rules.specs.Frames.{without, place}
 use Rattle.rules.proofs.Lists.{by-cases, not-true, and-left, and-right, and-both, all-nil, all-cons, all-head}
 use Rattle.rules.proofs.Held.{fetch-all}
-use Rattle.rules.proofs.Places.{later, length-without, rising-without}
+use Rattle.rules.proofs.Places.{later, length-without, rising-each, rising-without}
 use Rattle.table.specs.Facts.{All, none, both, Pairs, alone, ahead}
 use Rattle.table.specs.Spelled.{Row, id-of, held, stands, clauses, settled, Rising, Listed}
 use Rattle.table.proofs.Facts.{all-unreverse, all-more, all-both, map-same}
@@ -29,10 +29,6 @@ place-first : (h : Held) (hs : List Held) → all (later h) hs ≡ true → plac
 unfolding place
 place-first h [] a = refl
 place-first h (x ∷ hs) a = let l = all-head (later h) x hs a in rw l
-
-rising-each : (h : Held) (hs : List Held) → rising (h ∷ hs) ≡ true → (all (later h) hs ≡ true) × (rising hs ≡ true)
-unfolding rising
-rising-each h hs s = (and-left (all (later h) hs) (rising hs) s, and-right (all (later h) hs) (rising hs) s)
 
 -- they are settled
 pub settled-rising : (hs : List Held) → rising hs ≡ true → settled hs ≡ hs

@@ -35,13 +35,13 @@ fn mark_part(marks: &mut [bool], start: usize, end: usize) -> bool
     requires { ⌜ (start ≤ end) × (start < end → end ≤ length (now marks)) ⌝ }
     ensures { λ r. ⌜ Takes (now (marks .entry)) start end r (now (marks .exit)) ⌝ }
 {
-    let mut j = start;
-    while j < end {
-        if marks[j] {
+    let mut w = start;
+    while w < end {
+        if marks[w] {
             return false;
         }
-        marks[j] = true;
-        j += 1;
+        marks[w] = true;
+        w += 1;
     }
     true
 }

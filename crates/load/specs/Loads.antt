@@ -2,7 +2,9 @@
 use mathlib.Core.Path.{_≡_}
 use mathlib.Core.Bool.{true, false}
 use mathlib.Core.List.{List}
+use Prim.Native.Nat.{_≤_}
 use lib.IntN.{ℤ}
+use lib.ListN.{length}
 use Rattle.table.specs.Spelled as working
 use Rattle.table.specs.Spelled.{Row, Fit}
 use Rattle.lent.specs.declared.Carried.{Carried}
@@ -14,3 +16,7 @@ use Rattle.lent.specs.State.{is-state, state-of}
 abbrev pub Loads : Carried → List Row → List ℤ → Loaded → List Row → Type 0
 Loads c rows pool (Working t) rows′ = (is-state c rows pool ≡ true) × Fit t rows′ pool (c .stack) × (working.spelled t rows′ pool (c .stack) ≡ state-of c rows pool)
 Loads c rows pool NoState rows′ = is-state c rows pool ≡ false
+
+-- the stack has room for 1,024 ids, and is no deeper
+abbrev pub StackLent : Carried → Type 0
+StackLent c = (length (c .stack) ≡ 1024) × (c .depth ≤ 1024)

@@ -6,9 +6,12 @@ ghost use lib.ListN.{length};
 ghost use Rattle.rules.specs.Lists.{all};
 ghost use Rattle.rules.specs.Terms.{is-clause, is-witness};
 ghost use Rattle.table.specs.Facts.{All, total};
-ghost use Rattle.table.specs.Spelled.{Inside, held, place-of, row-at, size};
-ghost use Rattle.lent.specs.State.{lawful};
+ghost use Rattle.table.specs.Spelled.{Inside, Rising, held, place-of, row-at, size};
+ghost use Rattle.lent.specs.State.{clear, every-two, inside, lawful};
+ghost use Rattle.order.specs.Orders.{is-tidy};
+ghost use Rattle.load.specs.Loads.{Loads, StackLent};
 ghost use Rattle.load.specs.Rights.{right};
+use lent::Carried;
 use rules::Check;
 use table::Table;
 
@@ -133,4 +136,86 @@ fn end_of(rows: &[[u32; 5]]) -> usize
         k += 1;
     }
     top
+}
+
+// ---- the state
+
+// Rows by rising id against what is carried: a working table, or no state.
+fn judge(rows: &[[u32; 5]], pool: &[i32], c: Carried) -> Loaded
+    requires { ⌜ Rising (now rows) × (all is-tidy (now rows) ≡ true) × StackLent c × (c .count ≡ length (now rows)) × (length (now rows) ≤ 1024) × (length (now pool) ≤ 8192) ⌝ }
+    ensures { λ r. ⌜ Loads c (now (rows .entry)) (now (pool .entry)) r (now (rows .entry)) ⌝ }
+{
+    let vars = order::wide(c.vars);
+    if vars == 0 {
+        return Loaded::NoState;
+    }
+    if 2048 < vars {
+        return Loaded::NoState;
+    }
+    if 2147483647 < c.highest {
+        return Loaded::NoState;
+    }
+    if !are_right(rows, pool, vars, c.highest) {
+        return Loaded::NoState;
+    }
+    if words_of(rows) != order::wide(c.words) {
+        return Loaded::NoState;
+    }
+    if !lent::are_apart(rows, pool.len()) {
+        return Loaded::NoState;
+    }
+    let stack = c.stack;
+    let depth = order::wide(c.depth);
+    if !lent::lists_each_once(rows, &stack[..depth]) {
+        return Loaded::NoState;
+    }
+    let top = end_of(rows) as u32;
+    Loaded::Working(Table {
+        vars: c.vars,
+        highest: c.highest,
+        count: c.count,
+        words: c.words,
+        depth: c.depth,
+        top: top,
+    })
+}
+
+// The rows, all of them held, brought into rising order and judged.
+fn load_held(rows: &mut [[u32; 5]], pool: &[i32], c: Carried) -> Loaded
+    requires { ⌜ StackLent c × (c .count ≡ length (now rows)) × (length (now rows) ≤ 1024) × (length (now pool) ≤ 8192) ⌝ }
+    ensures { λ r. ⌜ Loads c (now (rows .entry)) (now (pool .entry)) r (now (rows .exit)) ⌝ }
+{
+    if !order::arrange(rows) {
+        return Loaded::NoState;
+    }
+    judge(rows, pool, c)
+}
+
+fn count(ids: &[u32]) -> usize
+    ensures { λ r. ⌜ r ≡ length (now (ids .entry)) ⌝ }
+{
+    ids.len()
+}
+
+// How many ids the stack has room for: that an array is as long as its type says is told where it is made a slice.
+fn stack_room(stack: &[u32; 1024]) -> usize
+    ensures { λ r. ⌜ (r ≡ 1024) × (length (now (stack .entry)) ≡ 1024) ⌝ }
+{
+    count(stack)
+}
+
+// Brings the rows held into rising order and judges them.
+pub fn load(rows: &mut [[u32; 5]], pool: &[i32], c: Carried) -> Loaded
+    requires { ⌜ (length (now rows) ≤ 1024) × (length (now pool) ≤ 8192) ⌝ }
+    ensures { λ r. ⌜ Loads c (now (rows .entry)) (now (pool .entry)) r (now (rows .exit)) ⌝ }
+{
+    let count = order::wide(c.count);
+    if rows.len() < count {
+        return Loaded::NoState;
+    }
+    let stack = c.stack;
+    if stack_room(&stack) < order::wide(c.depth) {
+        return Loaded::NoState;
+    }
+    load_held(&mut rows[..count], pool, c)
 }

@@ -50,7 +50,7 @@ count-stacked-requires : tie.Need-count-stacked-requires Inv-loop μ-loop
 count-stacked-requires c κs = search needs
 
 returns : tie.Need-returns Inv-loop μ-loop
-returns c = miscounted _ _ (λ e. c .if1 .taken (e ∙ sym (c .before .count-stacked .ensures)))
+returns c = miscounted _ _ (λ e. omega (arith, c .before .count-stacked .ensures))
 
 loop-holds : tie.Need-loop-holds Inv-loop μ-loop
 loop-holds c = ticked-start _ _ (c .before .before .before .pre .1)
@@ -107,7 +107,7 @@ loop-again c =
     ticked-next _ _ (at (found x) .loop .inv) (more (found x)) (s (found x) .pre .0) (k x) (located-at x) (sym (p .place-at .ensures) ∙ c .before .if2 .left) (c .if3 .left)
 
 returns-5 : tie.Need-returns-5 Inv-loop μ-loop
-returns-5 c = ticked-end _ _ (c .before .loop .inv) (search needs) (c .before .before .if1 .left ∙ c .before .before .before .count-stacked .ensures)
+returns-5 c = ticked-end _ _ (c .before .loop .inv) (search needs) (omega (arith, c .before .before .before .count-stacked .ensures))
 
 pub lists-each-once-spec : {M : Type 1} → statement M
 lists-each-once-spec =

@@ -1,4 +1,4 @@
--- `lent::mark_part` meets its contract. The loop's invariant: the words from start to j were free, and are marked.
+-- `lent::mark_part` meets its contract. The loop's invariant: the words from start to w were free, and are marked.
 use mathlib.Core.Path.{_≡_}
 use Prim.Native.Nat.{_-_, _<_, _≤_}
 use native.Mathlib.Omega.{arith}
@@ -10,14 +10,14 @@ use Rattle.lent.proofs.mark_part.Statement.{statement}
 use Rattle.lent.proofs.mark_part.Tie as tie
 
 abbrev Inv-loop : tie.InvT-loop
-Inv-loop marks₀ start end j₀ marks j = (start ≤ j) × (j ≤ end) × Taken marks₀ start j marks
+Inv-loop marks₀ start end w₀ marks w = (start ≤ w) × (w ≤ end) × Taken marks₀ start w marks
 
 abbrev μ-loop : tie.MeasureT-loop
-μ-loop marks₀ start end j₀ marks j = end - j
+μ-loop marks₀ start end w₀ marks w = end - w
 
--- in the loop: the word at j is there
+-- in the loop: the word w is there
 module _ (x : tie.In-loop Inv-loop μ-loop) where
-  low : x .before .loop .j < length (x .before .loop .marks)
+  low : x .before .loop .w < length (x .before .loop .marks)
   low =
       let i = x .before .loop .inv in
       let a = i .0 in
@@ -39,8 +39,8 @@ returns c = let i = c .before .before .before .loop .inv in taken-hit (i .2) (i 
 slice-write-marks : tie.Need-slice-write-marks Inv-loop μ-loop
 slice-write-marks c = low (c .before .before)
 
-add-j : tie.Need-add-j Inv-loop μ-loop
-add-j c = search needs
+add-w : tie.Need-add-w Inv-loop μ-loop
+add-w c = search needs
 
 loop-less : tie.Need-loop-less Inv-loop μ-loop
 loop-less c = search needs
@@ -54,7 +54,7 @@ same-length-2 c = c .before .loop .inv .2 .long
 returns-2 : tie.Need-returns-2 Inv-loop μ-loop
 returns-2 c =
     let l = c .before .loop in
-    let e : l .j ≡ c .before .before .args .end = search needs in
+    let e : l .w ≡ c .before .before .args .end = search needs in
     rw e at (l .inv .2)
 
 pub mark-part-spec : {M : Type 1} → statement M
@@ -68,7 +68,7 @@ mark-part-spec =
     same-length
     returns
     slice-write-marks
-    add-j
+    add-w
     loop-less
     loop-again
     same-length-2
