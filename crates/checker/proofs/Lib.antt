@@ -1,2 +1,3 @@
 pub mod Reaching
 pub mod Theorems
+pub mod Running
