@@ -1,3 +1,7 @@
 pub mod Reaching
 pub mod Theorems
 pub mod Running
+pub mod Sizes
+pub mod Stepped
+pub mod Big
+pub mod Shared

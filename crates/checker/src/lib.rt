@@ -1,9 +1,13 @@
 // The public calls over the lent tables. Any bits may be handed in.
 ghost use mathlib.Core.Path.{_≡_};
-ghost use mathlib.Core.Bool.{true};
+ghost use mathlib.Core.Bool.{_&&_};
 ghost use Prim.Native.Nat.{_≤_};
+ghost use lib.Dec.{eqb};
 ghost use lib.ListN.{length};
-ghost use Rattle.checker.specs.Running.{Running, left-with, stored-with};
+ghost use Rattle.rules.specs.Answers.{lent};
+ghost use Rattle.checker.specs.Calls.{Stepping};
+ghost use Rattle.checker.specs.Running.{RunLent, Running, left-with, stored-with};
+use entries::Entry;
 use lent::Carried;
 use load::Loaded;
 use rules::Answer;
@@ -87,4 +91,57 @@ fn run(rows: &mut [[u32; 5]], pool: &mut [i32], c: Carried, frame: &[i32], model
             left(answer, c)
         }
     }
+}
+
+// Sizes of entries, words and model buffer that are in range.
+fn in_sizes(entries: usize, words: usize, buffer: usize) -> bool
+    ensures { λ r. ⌜ r ≡ (lent entries words && eqb buffer 32) ⌝ }
+{
+    if entries == 0 {
+        return false;
+    }
+    if 1024 < entries {
+        return false;
+    }
+    if words == 0 {
+        return false;
+    }
+    if 8192 < words {
+        return false;
+    }
+    buffer == 32
+}
+
+// A frame on the rows of a table of n entries. Code 1 where the lent sizes or that of the model buffer are out of range.
+fn run_lent(
+    n: usize,
+    rows: &mut [[u32; 5]],
+    pool: &mut [i32],
+    c: Carried,
+    frame: &[i32],
+    model: &mut [u64],
+) -> Ran
+    requires { ⌜ length (now rows) ≡ 1024 ⌝ }
+    ensures { λ r. ⌜ RunLent n (now (rows .entry)) (now (pool .entry)) c (now (frame .entry)) (now (model .entry)) r (now (rows .exit)) (now (pool .exit)) (now (model .exit)) ⌝ }
+{
+    if in_sizes(n, pool.len(), model.len()) {
+        return run(&mut rows[..n], pool, c, frame, model);
+    }
+    left(Answer::Refused(Fault::NoState), c)
+}
+
+// One frame of any words on lent tables of any bits.
+pub fn step(
+    entries: &mut [Entry],
+    pool: &mut [i32],
+    carried: Carried,
+    frame: &[i32],
+    model: &mut [u64],
+) -> Called
+    ensures { λ r. ⌜ Stepping (now (entries .entry)) (now (pool .entry)) carried (now (frame .entry)) (now (model .entry)) r (now (entries .exit)) (now (pool .exit)) (now (model .exit)) ⌝ }
+{
+    let mut rows = entries::take_in(entries);
+    let r = run_lent(entries.len(), &mut rows, pool, carried, frame, model);
+    entries::put_back(entries, r.count, rows);
+    r.called
 }
