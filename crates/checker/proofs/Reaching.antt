@@ -1,8 +1,8 @@
 -- A chain of calls is a history of the paper's: what is lent and carried spells its state.
-use mathlib.Core.Path.{_≡_, refl, sym, ap, subst, _∙_}
-use mathlib.Core.Bool.{Bool, true, false}
-use mathlib.Core.List.{List, [], _∷_, _++_, append-nil}
-use mathlib.Core.Option.{Option, none, some}
+use mathlib.Core.Path.{_≡_, refl, sym, ap, _∙_}
+use mathlib.Core.Bool.{true, false}
+use mathlib.Core.List.{List, [], _∷_, _++_}
+use mathlib.Core.Option.{none, some}
 use Prim.Native.Nat.{ℕ}
 use native.Mathlib.Omega.{arith}
 use lib.Dec.{eqb}
@@ -10,9 +10,8 @@ use lib.IntN.{ℤ}
 use lib.ListN.{length}
 use Rattle.rules.specs.Terms.{State}
 use Rattle.rules.specs.Frames.{parse}
-use Rattle.rules.specs.Answers.{Outcome, outcome, check-open, opened}
+use Rattle.rules.specs.Answers.{outcome, opened}
 use Rattle.rules.specs.Histories.{History, step, steps, added-by, Reached}
-use Rattle.rules.specs.declared.Answer.{Answer}
 use Rattle.rules.specs.declared.Answer.the-variants.{Accepted, Refused}
 use Rattle.rules.specs.declared.Check.{Check}
 use Rattle.rules.specs.declared.Check.the-variants.{Passed, Failed}
@@ -20,10 +19,10 @@ use Rattle.rules.specs.declared.Fault.the-variants.{NoState}
 use Rattle.rules.proofs.Lists.{by-cases}
 use Rattle.entries.specs.declared.Entry.{Entry}
 use Rattle.lent.specs.declared.Carried.{Carried}
-use Rattle.steps.specs.Applied.{answer-of, unless-refused, writes}
+use Rattle.steps.specs.Applied.{unless-refused, writes}
 use Rattle.steps.specs.declared.Written.{Written}
-use Rattle.steps.specs.declared.Written.the-variants.{Nothing, Tables}
-use Rattle.checker.specs.Calls.{state-lent, judged, said, answer-to, Opening, Stepping}
+use Rattle.steps.specs.declared.Written.the-variants.{Tables}
+use Rattle.checker.specs.Calls.{opened-with, state-lent, said, answer-to, Opening, Stepping}
 use Rattle.checker.specs.Chains.{Chain, open-first, then-step}
 use Rattle.checker.specs.declared.Called.{Called}
 
@@ -53,14 +52,14 @@ reached-one h f r = record {
 
 -- ---- open
 
-passed : (k : Check) → answer-of k ≡ Accepted 0 → k ≡ Passed
-passed Passed e = refl
-passed (Failed f) e = let z : _≡_ {A = ℕ} 0 1 = cc in absurd (omega arith)
+passed : (vars : ℕ) (k : Check) → opened-with vars k .answer ≡ Accepted 0 → k ≡ Passed
+passed vars Passed e = refl
+passed vars (Failed f) e = let z : _≡_ {A = ℕ} 0 1 = cc in absurd (omega arith)
 
 opening : (vars : ℕ) (entries : List Entry) (pool : List ℤ) (r : Called) → Opening vars entries pool r → r .answer ≡ Accepted 0 → History-of entries pool (r .carried) []
 unfolding steps
 opening vars entries pool r o e =
-    let k = passed _ (sym (o .answered) ∙ e) in
+    let k = passed vars _ (sym (ap (λ (x : Called). x .answer) (o .called)) ∙ e) in
     record {
       history = record { state = opened vars (length entries) (length pool); added = [] };
       reached = record { vars = vars; entries = length entries; words = length pool; accepted = k; frames = []; by-frames = refl };

@@ -1,7 +1,7 @@
 -- From what loading and a step on the working table promise to what a call does to the rows of what is lent.
 use mathlib.Core.Path.{_≡_, refl, sym, ap, subst, _∙_}
-use mathlib.Core.Bool.{Bool, true, false, cond}
-use mathlib.Core.List.{List, [], _∷_, _++_}
+use mathlib.Core.Bool.{true, false}
+use mathlib.Core.List.{List}
 use mathlib.Core.Option.{Option, none, some}
 use Prim.Native.Nat.{ℕ, _≤_}
 use native.Mathlib.Omega.{arith}
@@ -10,9 +10,8 @@ use lib.ListN.{length, take, drop}
 use lib.Seq.{length-take-le, take-append-le, take-all}
 use Rattle.rules.specs.Terms.{State}
 use Rattle.rules.specs.Frames.{Frame, ADD, LEARN, FORGET, PROMOTE, DROP, WEAKEN, RESTORE, SAT, UNSAT, Parsed, malformed, framed, parse}
-use Rattle.rules.specs.Answers.{check, Handed, untouched, mended, Outcome, settled, outcome, outcome-parsed}
-use Rattle.rules.specs.declared.Answer.{Answer}
-use Rattle.rules.specs.declared.Answer.the-variants.{Accepted, Refused}
+use Rattle.rules.specs.Answers.{check, Handed, untouched, Outcome, settled, outcome, outcome-parsed}
+use Rattle.rules.specs.declared.Answer.the-variants.{Refused}
 use Rattle.rules.specs.declared.Check.{Check}
 use Rattle.rules.specs.declared.Check.the-variants.{Passed, Failed}
 use Rattle.rules.specs.declared.Fault.the-variants.{NoState}
@@ -22,14 +21,13 @@ use Rattle.table.specs.Spelled as working
 use Rattle.table.specs.Spelled.{Row, Fit}
 use Rattle.table.specs.declared.Table.{Table}
 use Rattle.lent.specs.State.{is-state, state-of, spelled}
-use Rattle.lent.specs.Stored.{carried-of}
 use Rattle.lent.specs.declared.Carried.{Carried}
 use Rattle.lent.proofs.Stored.{stored-is-state, stored-spells}
 use Rattle.steps.specs.Applied.{unless-refused, writes, Wrote, Steps}
 use Rattle.steps.specs.declared.Stepped.{Stepped}
 use Rattle.steps.specs.declared.Written.{Written}
 use Rattle.steps.specs.declared.Written.the-variants.{Nothing, Tables, Model}
-use Rattle.checker.specs.Calls.{judged, answer-to, handed-by}
+use Rattle.checker.specs.Calls.{judged}
 use Rattle.checker.specs.Running.{Running, left-with, stored-with}
 
 some-one : {A : Type 0} {x y : A} → _≡_ {A = Option A} (some x) (some y) → x ≡ y

@@ -1,28 +1,24 @@
 -- From a frame on the rows, and the rows put back, to what the call promises of what is lent.
-use mathlib.Core.Path.{_≡_, refl, sym, ap, subst, _∙_}
-use mathlib.Core.Bool.{Bool, true, false, cond, _&&_, true≢false}
-use mathlib.Core.List.{List, [], _∷_, _++_, map}
-use mathlib.Core.Option.{Option, none, some}
+use mathlib.Core.Path.{_≡_, sym, ap, subst, _∙_}
+use mathlib.Core.Bool.{true, false, true≢false}
+use mathlib.Core.List.{List, map}
+use mathlib.Core.Option.{none}
 use Prim.Native.Nat.{ℕ, _≤_}
 use native.Mathlib.Omega.{arith}
 use lib.Dec.{eqb}
 use lib.IntN.{ℤ}
-use lib.ListN.{length, take, drop, length-map}
+use lib.ListN.{length, take, length-map}
 use lib.Seq.{take-append-le, take-all, take-take}
-use Rattle.rules.specs.Terms.{State}
-use Rattle.rules.specs.Frames.{parse}
-use Rattle.rules.specs.Answers.{Outcome, lent}
-use Rattle.rules.specs.declared.Answer.the-variants.{Refused}
-use Rattle.rules.specs.declared.Fault.the-variants.{NoState}
+use Rattle.rules.specs.Answers.{lent}
 use Rattle.rules.proofs.Lists.{by-cases, and-left, and-right, and-both}
 use Rattle.slices.specs.Writes.{over}
 use Rattle.table.specs.Spelled.{Row}
-use Rattle.entries.specs.Lent.{entry-of, row-of, vacant-rows}
+use Rattle.entries.specs.Lent.{entry-of, row-of}
 use Rattle.entries.specs.declared.Entry.{Entry}
 use Rattle.lent.specs.State.{spelled}
 use Rattle.lent.specs.declared.Carried.{Carried}
-use Rattle.checker.specs.Calls.{state-lent, judged, said, answer-to, handed-by, Stepping}
-use Rattle.checker.specs.Running.{Running, RunLent, in-sizes, left-with, taken}
+use Rattle.checker.specs.Calls.{state-lent, judged, said, answer-to, Stepping}
+use Rattle.checker.specs.Running.{Running, RunLent, in-sizes, taken}
 use Rattle.checker.specs.declared.Ran.{Ran}
 use Rattle.checker.proofs.Sizes.{sizes}
 

@@ -1,10 +1,10 @@
 -- The theorems over the calls: of any outcomes that the promises of `open` and `step` allow, in terms of the lent words, what is carried, the frames and the model buffer.
 -- To believe them, read specs/, those of rules, lent and entries, and this file.
-use mathlib.Core.Path.{_≡_, refl, sym, ap, subst, _∙_}
+use mathlib.Core.Path.{_≡_, sym, ap, subst, _∙_}
 use mathlib.Core.Logic.{_↔_}
 use mathlib.Core.Bool.{true}
 use mathlib.Core.List.{List}
-use mathlib.Core.Option.{Option, none, some}
+use mathlib.Core.Option.{Option, some}
 use Prim.Native.Nat.{ℕ, _<_, _^_}
 use native.Mathlib.Omega.{arith}
 use lib.Dec.{eqb}
@@ -13,7 +13,7 @@ use lib.ListN.{length, getD}
 use borrow.Author.Tests.{eq-eqb}
 use Rattle.rules.specs.Terms.{Assignment, State}
 use Rattle.rules.specs.Frames.{SAT, UNSAT, framed, parse, offered}
-use Rattle.rules.specs.Answers.{Handed, untouched, mended, Outcome, outcome, opened}
+use Rattle.rules.specs.Answers.{Handed, untouched, mended, Outcome, outcome}
 use Rattle.rules.specs.Histories.{models, Models, Assumes, Unwitnessed, Unopposed}
 use Rattle.rules.specs.declared.Answer.the-variants.{Accepted, Refused}
 use Rattle.rules.specs.declared.Fault.the-variants.{NoState}

@@ -11,11 +11,12 @@ use Rattle.rules.specs.Terms.{State}
 use Rattle.rules.specs.Frames.{parse}
 use Rattle.rules.specs.Answers.{Handed, untouched, Outcome, outcome, lent, check-open, opened}
 use Rattle.rules.specs.declared.Answer.{Answer}
-use Rattle.rules.specs.declared.Answer.the-variants.{Refused}
+use Rattle.rules.specs.declared.Answer.the-variants.{Accepted, Refused}
 use Rattle.rules.specs.declared.Check.{Check}
 use Rattle.rules.specs.declared.Check.the-variants.{Passed, Failed}
+use Rattle.rules.specs.declared.Fault.{Fault}
 use Rattle.rules.specs.declared.Fault.the-variants.{NoState}
-use Rattle.steps.specs.Applied.{answer-of, unless-refused, writes, Wrote}
+use Rattle.steps.specs.Applied.{unless-refused, writes, Wrote}
 use Rattle.steps.specs.declared.Written.the-variants.{Tables}
 use Rattle.entries.specs.Lent.{row-of}
 use Rattle.entries.specs.declared.Entry.{Entry}
@@ -33,14 +34,16 @@ state-lent entries pool c = cond (lent (length entries) (length pool)) (spelled 
 abbrev pub empty : ℕ → Carried
 empty vars = record { vars = vars; highest = 0; count = 0; words = 0; depth = 0; stack = replicate 1024 0 }
 
-abbrev pub opens : ℕ → Check → Carried
-opens vars Passed = empty vars
-opens vars (Failed e) = empty 0
+abbrev pub unopened-with : Fault → Called
+unopened-with e = record { answer = Refused e; carried = empty 0 }
+
+abbrev pub opened-with : ℕ → Check → Called
+opened-with vars Passed = record { answer = Accepted 0; carried = empty vars }
+opened-with vars (Failed e) = unopened-with e
 
 -- "Opening .. gives 1 for lent sizes only and then 3, both writing nothing; else 0, detail 0, and an empty state with highest id 0, whatever the tables held"
 pub record Opening (vars : ℕ) (entries : List Entry) (pool : List ℤ) (r : Called) : Type 0 where
-  pub answered : r .answer ≡ answer-of (check-open vars (length entries) (length pool))
-  pub carried : r .carried ≡ opens vars (check-open vars (length entries) (length pool))
+  pub called : r ≡ opened-with vars (check-open vars (length entries) (length pool))
   pub state : check-open vars (length entries) (length pool) ≡ Passed → state-lent entries pool (r .carried) ≡ some (opened vars (length entries) (length pool))
 
 -- ---- step

@@ -1,11 +1,15 @@
 // The public calls over the lent tables. Any bits may be handed in.
 ghost use mathlib.Core.Path.{_≡_};
 ghost use mathlib.Core.Bool.{_&&_};
+ghost use mathlib.Core.List.{List};
 ghost use Prim.Native.Nat.{_≤_};
+ghost use lib.IntN.{ℤ};
 ghost use lib.Dec.{eqb};
 ghost use lib.ListN.{length};
-ghost use Rattle.rules.specs.Answers.{lent};
-ghost use Rattle.checker.specs.Calls.{Stepping};
+ghost use Rattle.entries.specs.declared.Entry.{Entry};
+ghost use Rattle.rules.specs.Answers.{check-open, lent};
+ghost use Rattle.checker.specs.Calls.{Opening, Stepping, opened-with, unopened-with};
+ghost use Rattle.checker.specs.Calls.{empty as empty-carried};
 ghost use Rattle.checker.specs.Running.{RunLent, Running, left-with, stored-with};
 use entries::Entry;
 use lent::Carried;
@@ -144,4 +148,53 @@ pub fn step(
     let r = run_lent(entries.len(), &mut rows, pool, carried, frame, model);
     entries::put_back(entries, r.count, rows);
     r.called
+}
+
+// What is carried of an empty state.
+fn empty(vars: u32) -> Carried
+    ensures { λ r. ⌜ r ≡ empty-carried vars ⌝ }
+{
+    Carried {
+        vars,
+        highest: 0,
+        count: 0,
+        words: 0,
+        depth: 0,
+        stack: [0u32; 1024],
+    }
+}
+
+fn unopened(fault: Fault) -> Called
+    ensures { λ r. ⌜ r ≡ unopened-with fault ⌝ }
+{
+    Called {
+        answer: Answer::Refused(fault),
+        carried: empty(0),
+    }
+}
+
+// Opening, by the lent sizes: 1, then 3. It neither reads nor writes the tables, "whatever the tables held".
+fn open_sized(vars: u32, entries: usize, words: usize) -> Called
+    ensures { λ r. ⌜ r ≡ opened-with vars (check-open vars entries words) ⌝ }
+{
+    if in_sizes(entries, words, 32) {
+        if vars == 0 {
+            return unopened(Fault::Literal(0));
+        }
+        if 2048 < vars {
+            return unopened(Fault::Literal(0));
+        }
+        return Called {
+            answer: Answer::Accepted(0),
+            carried: empty(vars),
+        };
+    }
+    unopened(Fault::NoState)
+}
+
+// Opens tables of these sizes.
+pub fn open(vars: u32, entries: usize, words: usize) -> Called
+    ensures { λ r. ⌜ ((es : List Entry) (ps : List ℤ) → length es ≡ entries → length ps ≡ words → Opening vars es ps r) ⌝ }
+{
+    open_sized(vars, entries, words)
 }

@@ -24,7 +24,8 @@ pub struct Carried {
 
 // ---- the parts of the pool
 
-fn wide(x: u32) -> usize
+// As a number that may be summed.
+pub fn wide(x: u32) -> usize
     ensures { λ r. ⌜ (r ≡ x) × (r ≤ 4294967295) ⌝ }
 {
     x as usize

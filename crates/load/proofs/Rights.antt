@@ -1,52 +1,32 @@
 -- What is asked of one row, test by test in the code's order.
-use mathlib.Core.Path.{_≡_, refl, sym, _∙_, ap}
-use mathlib.Core.Bool.{Bool, true, false, not, _&&_}
+use mathlib.Core.Path.{_≡_, refl, sym, _∙_}
+use mathlib.Core.Bool.{true, false}
 use mathlib.Core.List.{List, [], _∷_}
 use Prim.Native.Nat.{ℕ, zero, suc, _+_, _<_, _≤_}
 use native.Mathlib.Omega.{arith}
-use lib.Dec.{eqb, ltb, leb}
-use lib.IntN.{ℤ, natAbs}
-use lib.ListN.{length, getD, drop, drop-of-length-le}
-use borrow.Author.Tests.{lt-ltb, le-ltb, lt-leb, le-leb, eqb-true, eq-eqb, ne-eqb}
-use Rattle.rules.specs.Lists.{any, all}
-use Rattle.rules.specs.Terms.{in-range, holds, mentions, distinct, is-clause, is-witness, null, upd, Held, is-plain, is-record}
-use Rattle.rules.specs.Answers.{need, _then_, flaw, unseen}
-use Rattle.rules.specs.declared.Check.{Check}
+use lib.Dec.{eqb, ltb}
+use lib.IntN.{ℤ}
+use lib.ListN.{length}
+use borrow.Author.Tests.{lt-ltb, le-ltb, lt-leb, le-leb, ne-eqb}
+use Rattle.rules.specs.Lists.{any}
+use Rattle.rules.specs.Terms.{holds, is-clause, is-witness, null, Held, is-plain, is-record}
+use Rattle.rules.specs.Answers.{flaw, unseen}
 use Rattle.rules.specs.declared.Check.the-variants.{Passed, Failed}
 use Rattle.rules.specs.declared.Fault.{Fault}
-use Rattle.rules.proofs.Lists.{by-cases, true-false, not-true, from-index, or-left, or-right, and-left, and-right, all-head, all-tail}
-use Rattle.table.proofs.Rows.{clause-short}
-use Rattle.table.specs.Facts.{total}
+use Rattle.rules.proofs.Checks.{clause-passes}
+use Rattle.rules.proofs.Lists.{by-cases}
 use Rattle.table.specs.Spelled.{Row, id-of, place-of, start-of, size, held}
 use Rattle.lent.specs.State.{known, lawful}
 use Rattle.load.specs.Rights.{right}
 
 -- ---- a clause
 
--- no variable of the list was seen before: each literal passes
-passes : (vars : ℕ) (seen : ℕ → Bool) (at : ℕ) (c : List ℤ) → all (in-range vars) c ≡ true → distinct c ≡ true → ((v : ℕ) → mentions c v ≡ true → seen v ≡ false) → flaw vars seen at c ≡ Passed
-unfolding flaw distinct any upd need _then_
-passes vars seen at [] r d n = refl
-passes vars seen at (l ∷ c) r d n =
-    let v = natAbs l in
-    let ranged = all-head (in-range vars) l c r in
-    let here : seen v ≡ false = n v (or-left (eqb v v) (mentions c v) (eq-eqb v v refl)) in
-    let once : mentions c v ≡ false = not-true (and-left (not (mentions c v)) (distinct c) d) in
-    let rest : flaw vars (upd seen v true) (at + 1) c ≡ Passed = passes vars (upd seen v true) (at + 1) c (all-tail (in-range vars) l c r) (and-right (not (mentions c v)) (distinct c) d)
-    (λ u m. by-cases (eqb v u) (λ e. let q = eqb-true v u e in true-false m (rw q at once)) (λ e. rw e (n u (or-right (eqb v u) (mentions c u) m)))) in
-    rw (ranged, here, rest)
-
-pub clause-passes : (vars at : ℕ) (c : List ℤ) → is-clause vars c ≡ true → flaw vars unseen at c ≡ Passed
-unfolding is-clause
-clause-passes vars at c k =
-    let t = and-right (leb (length c) 256) (all (in-range vars) c && distinct c) k in
-    passes vars unseen at c (and-left (all (in-range vars) c) (distinct c) t) (and-right (all (in-range vars) c) (distinct c) t) (λ v m. refl)
-
 -- too long
 pub clause-long : (vars : ℕ) (c : List ℤ) → 256 < length c → is-clause vars c ≡ false
 unfolding is-clause
 clause-long vars c h = let e = lt-leb (length c) 256 h in rw e
 
+-- a literal is at fault
 pub clause-flawed : (vars at : ℕ) (c : List ℤ) (f : Fault) → flaw vars unseen at c ≡ Failed f → is-clause vars c ≡ false
 clause-flawed vars at c f e = by-cases (is-clause vars c) (λ t. absurd (apart (sym e ∙ clause-passes vars at c t))) (λ z. z)
   where
@@ -113,26 +93,3 @@ module _ (vars highest : ℕ) (pool : List ℤ) (r : Row) where
       let b = le-leb (id-of r) highest h in
       let e = le-leb (start-of r + size r) (length pool) i in
       rw (a, b, e)
-
--- ---- a test of each, for a loop that passes the list
-
-module _ {A : Type 0} (p : A → Bool) (xs : List A) (i : ℕ) where
-  module _ (d : A) (h : i < length xs) where
-    pub all-passed : p (getD xs i d) ≡ true → all p (drop i xs) ≡ all p (drop (i + 1) xs)
-    unfolding all
-    all-passed t = let e = from-index xs i d h in rw (e, t)
-
-    pub all-failed : p (getD xs i d) ≡ false → all p (drop i xs) ≡ false
-    unfolding all
-    all-failed f = let e = from-index xs i d h in rw (e, f)
-
-  pub all-ended : length xs ≤ i → all p (drop i xs) ≡ true
-  unfolding all
-  all-ended h = let e = drop-of-length-le xs h in rw e
-
-module _ {A : Type 0} (f : A → ℕ) (xs : List A) (i : ℕ) where
-  pub total-next : (d : A) → i < length xs → total f (drop i xs) ≡ f (getD xs i d) + total f (drop (i + 1) xs)
-  total-next d h = let e = from-index xs i d h in rw e
-
-  pub total-ended : length xs ≤ i → total f (drop i xs) ≡ 0
-  total-ended h = let e = drop-of-length-le xs h in rw e

@@ -1,28 +1,27 @@
 -- Rows by rising id that are all held: a test that fails makes what is lent and carried no state; where all pass the working table fits.
-use mathlib.Core.Path.{_≡_, refl, sym, _∙_, ap}
-use mathlib.Core.Bool.{Bool, true, false, not, _&&_, _||_}
-use mathlib.Core.List.{List, [], _∷_, map}
-use Prim.Native.Nat.{ℕ, suc, _+_, _<_, _≤_}
+use mathlib.Core.Path.{_≡_, refl, sym}
+use mathlib.Core.Bool.{Bool, true, false, _&&_}
+use mathlib.Core.List.{List, [], _∷_}
+use Prim.Native.Nat.{ℕ, _+_, _<_, _≤_}
 use native.Mathlib.Omega.{arith}
 use lib.Dec.{eqb, ltb, leb}
 use lib.IntN.{ℤ}
-use lib.ListN.{length, take, length-map}
-use lib.Seq.{take-length, length-take-le}
-use borrow.Author.Tests.{lt-ltb, le-ltb, lt-leb, le-leb, leb-true, ltb-true, eqb-true, eq-eqb, ne-eqb}
+use lib.ListN.{length, take}
+use borrow.Author.Tests.{le-ltb, lt-leb, le-leb, leb-true, eqb-true, ne-eqb}
 use Rattle.rules.specs.Lists.{all, only}
-use Rattle.rules.specs.Terms.{has}
-use Rattle.rules.proofs.Lists.{by-cases, true-false, not-true, and-left, and-right, and-both, or-right, all-at, all-of}
+use Rattle.rules.proofs.Lists.{by-cases, true-false, and-left, and-right, and-both, all-at, all-of}
 use Rattle.table.specs.Facts.{All, total}
 use Rattle.table.specs.Spelled as working
-use Rattle.table.specs.Spelled.{Row, id-of, place-of, start-of, size, held, stands, clauses, Rising, Known, Inside, Lawful, Fit}
+use Rattle.table.specs.Spelled.{Row, place-of, start-of, size, held, stands, clauses, Rising, Inside, Lawful, Fit}
 use Rattle.table.specs.declared.Table.{Table}
-use Rattle.lent.specs.State.{every-two, other-id, known, lawful, inside, clear, lists, numbers-are, counts-are, rows-are, is-state, state-of}
+use Rattle.lent.specs.State.{every-two, other-id, known, lawful, inside, clear, lists, is-state}
 use Rattle.lent.specs.declared.Carried.{Carried}
 use Rattle.lent.proofs.Tests.{all-fact}
 use Rattle.lent.proofs.Judged.{known-fact, lawful-fact, clears-fact}
 use Rattle.lent.proofs.Listing.{stack-fact}
 use Rattle.lent.proofs.Stored.{stored-is-state, stored-spells}
 use Rattle.order.specs.Orders.{is-tidy}
+use Rattle.order.proofs.Alike.{held-all}
 use Rattle.load.specs.Rights.{ends, right}
 use Rattle.load.specs.Loads.{Loads}
 use Rattle.load.specs.declared.Loaded.the-variants.{Working}
@@ -88,9 +87,6 @@ module _ (c : Carried) (rows : List Row) (pool : List ℤ) (n : c .count ≡ len
   abbrev inside-are : Bool
   inside-are = all (inside (length pool)) rows
 
-  whole : take (c .count) rows ≡ rows
-  whole = rw n (take-length rows)
-
   parts-of : is-state c rows pool ≡ true → Parts c rows pool
   unfolding is-state
   parts-of h =
@@ -103,7 +99,7 @@ module _ (c : Carried) (rows : List Row) (pool : List ℤ) (n : c .count ≡ len
       let ids = every-two other-id rows in
       let known-are = all (known (c .highest)) rows in
       let apart = every-two clear rows in
-      let w = whole in
+      let w = held-all c rows n in
       let g : (((low && high) && top) && ((few && (words && depth)) && ((ids && (known-are && (lawful-are && (inside-are && apart)))) && stacked))) ≡ true = rw w at h in
       let a = both-of ((low && high) && top) ((few && (words && depth)) && ((ids && (known-are && (lawful-are && (inside-are && apart)))) && stacked)) g in
       let b = both-of (few && (words && depth)) ((ids && (known-are && (lawful-are && (inside-are && apart)))) && stacked) (a .1) in
@@ -166,7 +162,7 @@ module _ (c : Carried) (rows : List Row) (pool : List ℤ) (n : c .count ≡ len
 
 -- ---- where all tests pass
 
-pub record Passed (c : Carried) (rows : List Row) (pool : List ℤ) (top : ℕ) : Type 0 where
+pub record Tested (c : Carried) (rows : List Row) (pool : List ℤ) (top : ℕ) : Type 0 where
   pub counted : c .count ≡ length rows
   pub rising : Rising rows
   pub few : length rows ≤ 1024
@@ -186,13 +182,13 @@ pub record Passed (c : Carried) (rows : List Row) (pool : List ℤ) (top : ℕ) 
 pub rights-inside : (vars highest : ℕ) (pool : List ℤ) (rows : List Row) → all (right vars highest pool) rows ≡ true → All (Inside (length pool)) rows
 rights-inside vars highest pool rows h = all-fact (right-inside vars highest pool) rows h
 
-module _ {c : Carried} {rows : List Row} {pool : List ℤ} {top : ℕ} (p : Passed c rows pool top) where
+module _ {c : Carried} {rows : List Row} {pool : List ℤ} {top : ℕ} (p : Tested c rows pool top) where
   abbrev table : Table
   table = record { vars = c .vars; highest = c .highest; count = c .count; words = c .words; depth = c .depth; top = top }
 
   fit : Fit table rows pool (c .stack)
   fit =
-      let w = whole c rows pool (p .counted) in
+      let w = held-all c rows (p .counted) in
       let n = p .low in
       record {
         vars-fit = (omega arith, p .high);

@@ -1,13 +1,13 @@
 // Whether what is lent and carried is a state, and the working table made of it.
 ghost use mathlib.Core.Path.{_≡_};
 ghost use mathlib.Core.Bool.{true};
-ghost use Prim.Native.Nat.{ℕ, _<_, _≤_};
+ghost use Prim.Native.Nat.{ℕ, _+_, _<_, _≤_};
 ghost use lib.ListN.{length};
 ghost use Rattle.rules.specs.Lists.{all};
 ghost use Rattle.rules.specs.Terms.{is-clause, is-witness};
 ghost use Rattle.table.specs.Facts.{All, total};
-ghost use Rattle.table.specs.Spelled.{Inside, Rising, held, place-of, row-at, size};
-ghost use Rattle.lent.specs.State.{clear, every-two, inside, lawful};
+ghost use Rattle.table.specs.Spelled.{Inside, Rising, held, place-of, row-at, size, start-of};
+ghost use Rattle.lent.specs.State.{lawful};
 ghost use Rattle.order.specs.Orders.{is-tidy};
 ghost use Rattle.load.specs.Loads.{Loads, StackLent};
 ghost use Rattle.load.specs.Rights.{right};
@@ -70,20 +70,28 @@ fn is_lawful(rows: &[[u32; 5]], pool: &[i32], k: usize, vars: usize) -> bool
     is_witness(vars, lits, witness)
 }
 
-// The row's id, where its literals end, and what they are.
+// Where the row's words end.
+fn end_at(rows: &[[u32; 5]], k: usize) -> usize
+    requires { ⌜ k < length (now rows) ⌝ }
+    ensures { λ r. ⌜ r ≡ start-of (row-at (now (rows .entry)) k) + size (row-at (now (rows .entry)) k) ⌝ }
+{
+    let row = rows[k];
+    lent::wide(row[2]) + (lent::wide(row[3]) + lent::wide(row[4]))
+}
+
+// The row's id, where its words end, and what they are.
 fn is_right(rows: &[[u32; 5]], pool: &[i32], k: usize, vars: usize, highest: u32) -> bool
     requires { ⌜ (k < length (now rows)) × (vars ≤ 2048) ⌝ }
     ensures { λ r. ⌜ r ≡ right vars highest (now (pool .entry)) (row-at (now (rows .entry)) k) ⌝ }
 {
-    let row = rows[k];
-    if row[0] == 0 {
+    let id = table::id_at(rows, k);
+    if id == 0 {
         return false;
     }
-    if highest < row[0] {
+    if highest < id {
         return false;
     }
-    let end = order::wide(row[2]) + order::wide(row[3]) + order::wide(row[4]);
-    if pool.len() < end {
+    if pool.len() < end_at(rows, k) {
         return false;
     }
     is_lawful(rows, pool, k, vars)
@@ -114,13 +122,13 @@ fn words_of(rows: &[[u32; 5]]) -> usize
     let mut k = 0;
     while k < rows.len() {
         let row = rows[k];
-        sum += order::wide(row[3]) + order::wide(row[4]);
+        sum += lent::wide(row[3]) + lent::wide(row[4]);
         k += 1;
     }
     sum
 }
 
-// Where the last of their literals ends: the pool's unused tail starts there.
+// Where the last of them ends: the pool's unused tail starts there.
 fn end_of(rows: &[[u32; 5]]) -> usize
     ensures all_before { λ r. ⌜ All (Inside r) (now (rows .entry)) ⌝ }
     ensures no_later { λ r. ⌜ ((top : ℕ) → All (Inside top) (now (rows .entry)) → r ≤ top) ⌝ }
@@ -128,8 +136,7 @@ fn end_of(rows: &[[u32; 5]]) -> usize
     let mut top = 0;
     let mut k = 0;
     while k < rows.len() {
-        let row = rows[k];
-        let end = order::wide(row[2]) + order::wide(row[3]) + order::wide(row[4]);
+        let end = end_at(rows, k);
         if top < end {
             top = end;
         }
@@ -145,7 +152,7 @@ fn judge(rows: &[[u32; 5]], pool: &[i32], c: Carried) -> Loaded
     requires { ⌜ Rising (now rows) × (all is-tidy (now rows) ≡ true) × StackLent c × (c .count ≡ length (now rows)) × (length (now rows) ≤ 1024) × (length (now pool) ≤ 8192) ⌝ }
     ensures { λ r. ⌜ Loads c (now (rows .entry)) (now (pool .entry)) r (now (rows .entry)) ⌝ }
 {
-    let vars = order::wide(c.vars);
+    let vars = lent::wide(c.vars);
     if vars == 0 {
         return Loaded::NoState;
     }
@@ -158,14 +165,14 @@ fn judge(rows: &[[u32; 5]], pool: &[i32], c: Carried) -> Loaded
     if !are_right(rows, pool, vars, c.highest) {
         return Loaded::NoState;
     }
-    if words_of(rows) != order::wide(c.words) {
+    if words_of(rows) != lent::wide(c.words) {
         return Loaded::NoState;
     }
     if !lent::are_apart(rows, pool.len()) {
         return Loaded::NoState;
     }
     let stack = c.stack;
-    let depth = order::wide(c.depth);
+    let depth = lent::wide(c.depth);
     if !lent::lists_each_once(rows, &stack[..depth]) {
         return Loaded::NoState;
     }
@@ -176,7 +183,7 @@ fn judge(rows: &[[u32; 5]], pool: &[i32], c: Carried) -> Loaded
         count: c.count,
         words: c.words,
         depth: c.depth,
-        top: top,
+        top,
     })
 }
 
@@ -209,12 +216,12 @@ pub fn load(rows: &mut [[u32; 5]], pool: &[i32], c: Carried) -> Loaded
     requires { ⌜ (length (now rows) ≤ 1024) × (length (now pool) ≤ 8192) ⌝ }
     ensures { λ r. ⌜ Loads c (now (rows .entry)) (now (pool .entry)) r (now (rows .exit)) ⌝ }
 {
-    let count = order::wide(c.count);
+    let count = lent::wide(c.count);
     if rows.len() < count {
         return Loaded::NoState;
     }
     let stack = c.stack;
-    if stack_room(&stack) < order::wide(c.depth) {
+    if stack_room(&stack) < lent::wide(c.depth) {
         return Loaded::NoState;
     }
     load_held(&mut rows[..count], pool, c)

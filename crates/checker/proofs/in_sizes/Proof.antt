@@ -1,7 +1,6 @@
-use mathlib.Core.Path.{_≡_, refl}
+use mathlib.Core.Path.{refl}
 use native.Mathlib.Omega.{arith}
 use borrow.Author.Tests.{lt-ltb, le-leb, lt-leb}
-use borrow.Author.Needs.{needs}
 use Rattle.checker.proofs.in_sizes.Statement.{statement}
 use Rattle.checker.proofs.in_sizes.Tie as tie
 

@@ -9,7 +9,7 @@ use Rattle.table.specs.declared.Table.{Table}
 use Rattle.lent.specs.State.{is-state, state-of}
 use Rattle.lent.specs.declared.Carried.{Carried}
 use Rattle.load.specs.Loads.{Loads}
-use Rattle.load.specs.declared.Loaded.the-variants.{Working, NoState}
+use Rattle.load.specs.declared.Loaded.the-variants.{NoState}
 use Rattle.checker.proofs.Running.{unloaded, ran-nothing, ran-model, ran-tables}
 use borrow.Author.Needs.{needs}
 use Rattle.checker.proofs.run.Statement.{statement}

@@ -1,5 +1,5 @@
 -- `load::is_clause` meets its contract.
-use mathlib.Core.Path.{_≡_, sym, _∙_}
+use mathlib.Core.Path.{sym, _∙_}
 use native.Mathlib.Omega.{arith}
 use Rattle.rules.proofs.Checks.{flaw-clause}
 use Rattle.load.proofs.Rights.{clause-long, clause-flawed}

@@ -1,5 +1,5 @@
 -- `load::is_witness` meets its contract.
-use mathlib.Core.Path.{_≡_, sym, _∙_, ap}
+use mathlib.Core.Path.{sym, _∙_, ap}
 use Rattle.rules.specs.Lists.{any}
 use Rattle.rules.specs.Terms.{is-clause}
 use Rattle.table.proofs.Readers.{clause-ranged}

@@ -1,7 +1,6 @@
 -- `load::load` meets its contract: of the rows lent, those held are loaded.
-use mathlib.Core.Path.{_≡_, sym, _∙_}
+use mathlib.Core.Path.{sym, _∙_}
 use native.Mathlib.Omega.{arith}
-use lib.ListN.{length}
 use lib.Seq.{length-take-le}
 use Rattle.load.proofs.Held.{too-many, stack-past, front-loads}
 use borrow.Author.Needs.{needs}

@@ -1,5 +1,4 @@
 -- `load::load_held` meets its contract.
-use mathlib.Core.Path.{_≡_, sym, _∙_}
 use native.Mathlib.Omega.{arith}
 use borrow.Author.Tests.{not-true, not-false}
 use Rattle.order.proofs.Alike.{arranged-count, arranged-tidy}

@@ -1,13 +1,12 @@
 -- `load::words_of` meets its contract. The loop's invariant: the sum of those before k, which are at most 8,192 each.
-use mathlib.Core.Path.{_≡_, refl}
+use mathlib.Core.Path.{_≡_}
 use mathlib.Core.List.{List, []}
 use Prim.Native.Nat.{_+_, _*_, _-_, _≤_}
 use native.Mathlib.Omega.{arith}
 use lib.ListN.{length, drop}
 use Rattle.table.specs.Facts.{total}
 use Rattle.table.specs.Spelled.{Row, row-at, size}
-use Rattle.table.proofs.Facts.{all-index}
-use Rattle.load.proofs.Rights.{total-next, total-ended}
+use Rattle.table.proofs.Facts.{all-index, total-on, total-past}
 use borrow.Author.Needs.{needs}
 use Rattle.load.proofs.words_of.Statement.{statement}
 use Rattle.load.proofs.words_of.Tie as tie
@@ -65,10 +64,10 @@ loop-less : tie.Need-loop-less Inv-loop μ-loop
 loop-less c = search needs
 
 loop-again : tie.Need-loop-again Inv-loop μ-loop
-loop-again c = let l = c .before .before .before .before .loop in (omega (arith, size-is c, total-next size (rows c) (l .k) [] (omega arith)), omega (arith, size-is c, size-low c), omega arith)
+loop-again c = let l = c .before .before .before .before .loop in (omega (arith, size-is c, total-on size (rows c) (l .k) [] (omega arith)), omega (arith, size-is c, size-low c), omega arith)
 
 returns : tie.Need-returns Inv-loop μ-loop
-returns c = let l = c .before .loop in omega (arith, total-ended size (c .before .before .args .rows .now) (l .k) (omega arith))
+returns c = let l = c .before .loop in omega (arith, total-past size (c .before .before .args .rows .now) (l .k) (omega arith))
 
 pub words-of-spec : {M : Type 1} → statement M
 words-of-spec =
