@@ -7,14 +7,13 @@ use lib.IntN.{ℤ}
 use lib.ListN.{take}
 use Rattle.rules.specs.Terms.{State}
 use Rattle.rules.specs.Frames.{Frame, ADD, LEARN, FORGET, PROMOTE, DROP, WEAKEN, RESTORE, SAT, UNSAT, Parsed, malformed, framed, parse}
-use Rattle.rules.specs.Answers.{check, Handed, untouched, mended, settled, outcome, outcome-parsed}
+use Rattle.rules.specs.Answers.{check, settled, outcome, outcome-parsed}
 use Rattle.rules.specs.Outcomes.{trues}
 use Rattle.rules.specs.declared.Check.{Check}
 use Rattle.rules.specs.declared.Check.the-variants.{Passed, Failed}
-use Rattle.rules.specs.declared.Answer.{Answer}
 use Rattle.rules.specs.declared.Answer.the-variants.{Refused}
 use Rattle.rules.specs.declared.Fault.the-variants.{Malformed}
-use Rattle.table.specs.Spelled.{Row, spelled, Fit}
+use Rattle.table.specs.Spelled.{Row, spelled}
 use Rattle.table.specs.declared.Table.{Table}
 use Rattle.steps.specs.Applied as applied
 use Rattle.steps.specs.Applied.{Steps, unless-refused, writes}

@@ -1,9 +1,9 @@
 -- What each check leaves when it has passed.
 use mathlib.Core.Path.{_≡_, refl}
-use mathlib.Core.Bool.{Bool, true, false, not}
+use mathlib.Core.Bool.{Bool, true, false, not, _&&_}
 use mathlib.Core.List.{List, [], _∷_}
 use Prim.Native.Nat.{ℕ, _+_, _≤_}
-use lib.Dec.{eqb}
+use lib.Dec.{eqb, leb}
 use lib.IntN.{ℤ, natAbs}
 use lib.ListN.{length}
 use borrow.Author.Tests.{le-leb, eqb-true, eq-eqb}
@@ -16,7 +16,7 @@ use Rattle.rules.specs.declared.Verdict.the-variants.{Proved, BadHint, U
 use Rattle.rules.specs.declared.Fault.{Fault}
 use Rattle.rules.specs.declared.Check.{Check}
 use Rattle.rules.specs.declared.Check.the-variants.{Passed, Failed}
-use Rattle.rules.proofs.Lists.{by-cases, true-false, not-true, and-left, and-right, and-both, all-nil, all-cons}
+use Rattle.rules.proofs.Lists.{by-cases, true-false, not-true, or-left, or-right, and-left, and-right, and-both, all-nil, all-cons, all-head, all-tail}
 use Rattle.rules.proofs.Held.{meets, clean-of, clean-all}
 
 pub then-left : (a b : Check) → (a then b) ≡ Passed → a ≡ Passed
@@ -87,3 +87,22 @@ flawless vars seen at (l ∷ c) e =
 pub flaw-clause : (vars at : ℕ) (c : List ℤ) → length c ≤ 256 → flaw vars unseen at c ≡ Passed → is-clause vars c ≡ true
 unfolding is-clause
 flaw-clause vars at c h e = let f = flawless vars unseen at c e in and-both (le-leb _ _ h) (and-both (f .range) (f .once))
+
+-- and a clause passes: where no variable of the list was seen before, each literal does
+passes : (vars : ℕ) (seen : ℕ → Bool) (at : ℕ) (c : List ℤ) → all (in-range vars) c ≡ true → distinct c ≡ true → ((v : ℕ) → mentions c v ≡ true → seen v ≡ false) → flaw vars seen at c ≡ Passed
+unfolding flaw distinct any upd need _then_
+passes vars seen at [] r d n = refl
+passes vars seen at (l ∷ c) r d n =
+    let v = natAbs l in
+    let ranged = all-head (in-range vars) l c r in
+    let here : seen v ≡ false = n v (or-left (eqb v v) (mentions c v) (eq-eqb v v refl)) in
+    let once : mentions c v ≡ false = not-true (and-left (not (mentions c v)) (distinct c) d) in
+    let rest : flaw vars (upd seen v true) (at + 1) c ≡ Passed = passes vars (upd seen v true) (at + 1) c (all-tail (in-range vars) l c r) (and-right (not (mentions c v)) (distinct c) d)
+    (λ u m. by-cases (eqb v u) (λ e. let q = eqb-true v u e in true-false m (rw q at once)) (λ e. rw e (n u (or-right (eqb v u) (mentions c u) m)))) in
+    rw (ranged, here, rest)
+
+pub clause-passes : (vars at : ℕ) (c : List ℤ) → is-clause vars c ≡ true → flaw vars unseen at c ≡ Passed
+unfolding is-clause
+clause-passes vars at c k =
+    let t = and-right (leb (length c) 256) (all (in-range vars) c && distinct c) k in
+    passes vars unseen at c (and-left (all (in-range vars) c) (distinct c) t) (and-right (all (in-range vars) c) (distinct c) t) (λ v m. refl)

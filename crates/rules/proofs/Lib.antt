@@ -12,3 +12,4 @@ pub mod Kept
 pub mod Meaning
 pub mod Theorems
 pub mod Outcomes
+pub mod Codes

@@ -125,6 +125,14 @@ module _ {A : Type 0} where
     unfolding any
     any-past xs i h = rw drop-of-length-le
 
+    pub all-on : (xs : List A) (i : ℕ) (d : A) → i < length xs → all p (drop i xs) ≡ (p (getD xs i d) && all p (drop (i + 1) xs))
+    unfolding all
+    all-on xs i d h = let e = from-index xs i d h in rw e
+
+    pub all-past : (xs : List A) (i : ℕ) → length xs ≤ i → all p (drop i xs) ≡ true
+    unfolding all
+    all-past xs i h = rw drop-of-length-le
+
     pub all-index : (xs : List A) (i : ℕ) (d : A) → i < length xs → all p xs ≡ true → p (getD xs i d) ≡ true
     all-index [] i d h a = absurd (not-suc-le-zero h)
     all-index (x ∷ xs) zero d h a = all-head x xs a

@@ -80,7 +80,7 @@ room-without j (h ∷ hs) m = by-cases (eqb (h .id) j) (λ e. rw e) (λ e. rw e 
 abbrev pub later : Held → Held → Bool
 later h x = ltb (h .id) (x .id)
 
-rising-each : (h : Held) (hs : List Held) → rising (h ∷ hs) ≡ true → (all (later h) hs ≡ true) × (rising hs ≡ true)
+pub rising-each : (h : Held) (hs : List Held) → rising (h ∷ hs) ≡ true → (all (later h) hs ≡ true) × (rising hs ≡ true)
 unfolding rising
 rising-each h hs s = (and-left (all (later h) hs) (rising hs) s, and-right (all (later h) hs) (rising hs) s)
 

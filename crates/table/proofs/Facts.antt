@@ -1,13 +1,13 @@
 -- Laws of a fact of each element, and of every two. Nothing here knows of clauses.
 use mathlib.Core.Path.{_≡_, refl, sym, subst}
 use mathlib.Core.List.{List, [], _∷_, _++_, map, reverse, reverse-cons}
-use Prim.Native.Nat.{ℕ, zero, suc, _+_, _<_}
+use Prim.Native.Nat.{ℕ, zero, suc, _+_, _<_, _≤_}
 use native.Mathlib.Omega.{arith}
 use native.Mathlib.Nat.{le-of-suc-le-suc, not-suc-le-zero}
 use lib.Dec.{eqb}
-use lib.ListN.{length, getD}
+use lib.ListN.{length, getD, drop, drop-of-length-le}
 use borrow.Author.Tests.{eqb-true, eqb-false}
-use Rattle.rules.proofs.Lists.{by-cases}
+use Rattle.rules.proofs.Lists.{by-cases, from-index}
 use Rattle.table.specs.Facts.{All, none, both, Pairs, alone, ahead, total}
 
 -- a fact of the numbers below, and of one more
@@ -116,3 +116,10 @@ module _ {A : Type 0} (f : A → ℕ) where
 
   pub total-cut : (xs : List A) (y : A) (ys : List A) → total f (xs ++ y ∷ ys) ≡ f y + total f (xs ++ ys)
   total-cut xs y ys = omega (arith, total-join xs (y ∷ ys), total-join xs ys)
+
+  -- what is left from an index on, for a loop that passes the list
+  pub total-on : (xs : List A) (i : ℕ) (d : A) → i < length xs → total f (drop i xs) ≡ f (getD xs i d) + total f (drop (i + 1) xs)
+  total-on xs i d h = let e = from-index xs i d h in rw e
+
+  pub total-past : (xs : List A) (i : ℕ) → length xs ≤ i → total f (drop i xs) ≡ 0
+  total-past xs i h = let e = drop-of-length-le xs h in rw e

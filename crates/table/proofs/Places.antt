@@ -10,8 +10,8 @@ use borrow.Author.Tests.{ltb-true, eqb-true, lt-ltb, eq-eqb}
 use Rattle.rules.specs.Lists.{any, all}
 use Rattle.rules.specs.Terms.{Held, has, room, tally, rising}
 use Rattle.rules.specs.Frames.{without, place}
-use Rattle.rules.proofs.Lists.{by-cases, and-left, and-right, all-head}
-use Rattle.rules.proofs.Places.{later, tally-place, length-place, room-place, rising-place}
+use Rattle.rules.proofs.Lists.{by-cases, all-head}
+use Rattle.rules.proofs.Places.{later, tally-place, length-place, room-place, rising-each, rising-place}
 use Rattle.table.specs.Spelled.{settled}
 
 has-place : (x : Held) (hs : List Held) (i : ℕ) → has (place x hs) i ≡ (eqb (x .id) i || has hs i)
@@ -33,10 +33,6 @@ without-placed x (h ∷ hs) n =
     by-cases (ltb (x .id) (h .id)) (λ e. rw (e, self)) (λ e. by-cases (eqb (h .id) (x .id))
     (λ q. absurd (let z : 1 + tally (x .id) hs ≡ 0 = rw q at n in omega arith))
     (λ q. let r = without-placed x hs (omega arith) in rw (e, q, r)))
-
-rising-each : (h : Held) (hs : List Held) → rising (h ∷ hs) ≡ true → (all (later h) hs ≡ true) × (rising hs ≡ true)
-unfolding rising
-rising-each h hs s = (and-left (all (later h) hs) (rising hs) s, and-right (all (later h) hs) (rising hs) s)
 
 -- a clause earlier than the first of them comes first
 place-front : (x h : Held) (hs : List Held) → later x h ≡ true → all (later h) hs ≡ true → place x hs ≡ x ∷ hs

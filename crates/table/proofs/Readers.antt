@@ -68,7 +68,7 @@ in-range-more v n (pos zero) h r = r
 in-range-more v n (pos (suc k)) h r = let q = ltb-true k v r in lt-ltb k n (omega arith)
 in-range-more v n (negsuc k) h r = let q = ltb-true k v r in lt-ltb k n (omega arith)
 
-clause-ranged : (v : ℕ) (c : List ℤ) → v ≤ 2048 → is-clause v c ≡ true → all (in-range 2048) c ≡ true
+pub clause-ranged : (v : ℕ) (c : List ℤ) → v ≤ 2048 → is-clause v c ≡ true → all (in-range 2048) c ≡ true
 unfolding is-clause
 clause-ranged v c h k =
     let r = and-left (all (in-range v) c) (distinct c) (and-right (leb (length c) 256) _ k) in

@@ -3,9 +3,7 @@ use mathlib.Core.Path.{_≡_, refl, _∙_}
 use mathlib.Core.List.{List}
 use Prim.Native.Nat.{ℕ, _+_, _-_, _≤_, _<_}
 use native.Mathlib.Omega.{arith}
-use lib.IntN.{ℤ}
 use lib.ListN.{length}
-use Rattle.rules.specs.Terms.{State}
 use Rattle.table.specs.Spelled.{spelled, Fit}
 use Rattle.lines.specs.Machine.{run-of}
 use Rattle.lines.specs.Lent.{Values}

@@ -1,0 +1,79 @@
+-- Opening: its two checks, and that what it carries spells the empty state.
+use mathlib.Core.Path.{_≡_, refl, ap, _∙_}
+use mathlib.Core.Bool.{true, false, _&&_}
+use mathlib.Core.List.{List, map}
+use mathlib.Core.Option.{some}
+use Prim.Native.Nat.{ℕ, _≤_, _<_}
+use native.Mathlib.Omega.{arith}
+use lib.Dec.{ltb, leb}
+use lib.IntN.{ℤ}
+use lib.ListN.{length, length-map, replicate, length-replicate}
+use borrow.Author.Tests.{lt-ltb, le-leb, lt-leb, ltb-true, leb-true}
+use Rattle.rules.specs.Answers.{_then_, need, lent, check-open, opened}
+use Rattle.rules.specs.declared.Check.the-variants.{Passed, Failed}
+use Rattle.rules.specs.declared.Fault.the-variants.{NoState, Literal}
+use Rattle.rules.proofs.Checks.{then-left, then-right, need-true}
+use Rattle.rules.proofs.Lists.{and-left, and-right}
+use Rattle.table.specs.Spelled.{Fit}
+use Rattle.table.proofs.Empty as working
+use Rattle.entries.specs.Lent.{row-of}
+use Rattle.entries.specs.declared.Entry.{Entry}
+use Rattle.lent.proofs.Stored.{stored-is-state, stored-spells}
+use Rattle.checker.specs.Calls.{state-lent, empty, opened-with, Opening}
+use Rattle.checker.specs.declared.Called.{Called}
+
+module _ (vars entries words : ℕ) where
+  pub unlent : lent entries words ≡ false → check-open vars entries words ≡ Failed NoState
+  unfolding check-open _then_ need
+  unlent f = rw f
+
+  pub no-vars : lent entries words ≡ true → vars ≡ 0 → check-open vars entries words ≡ Failed (Literal 0)
+  unfolding check-open _then_ need
+  no-vars t z = rw (t, z)
+
+  pub many-vars : lent entries words ≡ true → 2048 < vars → check-open vars entries words ≡ Failed (Literal 0)
+  unfolding check-open _then_ need
+  many-vars t h = let a = lt-ltb 0 vars (omega arith) in let b = lt-leb vars 2048 h in rw (t, a, b)
+
+  pub opens : lent entries words ≡ true → 0 < vars → vars ≤ 2048 → check-open vars entries words ≡ Passed
+  unfolding check-open _then_ need
+  opens t h k = let a = lt-ltb 0 vars h in let b = le-leb vars 2048 k in rw (t, a, b)
+
+-- ---- the empty state
+
+module _ (vars : ℕ) (entries : List Entry) (pool : List ℤ) (k : check-open vars (length entries) (length pool) ≡ Passed) where
+  fits : lent (length entries) (length pool) ≡ true
+  unfolding check-open
+  fits = need-true _ _ (then-left _ _ k)
+
+  in-range : (ltb 0 vars && leb vars 2048) ≡ true
+  unfolding check-open
+  in-range = need-true _ _ (then-right _ _ k)
+
+  rows-lent : length entries ≤ 1024
+  rows-lent = leb-true (length entries) 1024 (and-right (ltb 0 (length entries)) _ (and-left (ltb 0 (length entries) && leb (length entries) 1024) _ fits))
+
+  pool-lent : length pool ≤ 8192
+  pool-lent = leb-true (length pool) 8192 (and-right (ltb 0 (length pool)) _ (and-right (ltb 0 (length entries) && leb (length entries) 1024) _ fits))
+
+  empty-fits : Fit (working.empty vars) (map row-of entries) pool (replicate 1024 0)
+  empty-fits =
+      let m : length (map row-of entries) ≡ length entries = length-map entries row-of in
+      let ids : List ℕ = replicate 1024 0 in
+      let n : length ids ≡ 1024 = length-replicate {A = ℕ} 1024 0 in
+      working.empty-fit vars (map row-of entries) pool ids (ltb-true 0 vars (and-left (ltb 0 vars) _ in-range)) (leb-true vars 2048 (and-right (ltb 0 vars) _ in-range))
+      (omega (arith, m, rows-lent)) pool-lent (omega (arith, m, n, rows-lent))
+
+  pub spells-opened : state-lent entries pool (empty vars) ≡ some (opened vars (length entries) (length pool))
+  spells-opened =
+      let m : length (map row-of entries) ≡ length entries = length-map entries row-of in
+      let f = fits in
+      let s = stored-is-state empty-fits (map row-of entries) refl refl in
+      let e = stored-spells empty-fits (map row-of entries) refl refl ∙ working.empty-spelled vars (map row-of entries) pool (replicate 1024 0) ∙ ap (λ n. opened vars n (length pool)) m in
+      rw (f, s) (ap some e)
+
+-- what opening by sizes says of tables of those sizes
+pub opening-of : (vars n w : ℕ) (entries : List Entry) (pool : List ℤ) → length entries ≡ n → length pool ≡ w → (r : Called) → r ≡ opened-with vars (check-open vars n w) → Opening vars entries pool r
+opening-of vars n w entries pool a b r e =
+    let called : r ≡ opened-with vars (check-open vars (length entries) (length pool)) = rw (a, b) e in
+    record { called = called; state = λ k. let q : r .carried ≡ empty vars = ap (λ (x : Called). x .carried) (called ∙ ap (opened-with vars) k) in rw q (spells-opened vars entries pool k) }

@@ -1,0 +1,200 @@
+// The public calls over the lent tables. Any bits may be handed in.
+ghost use mathlib.Core.Path.{_≡_};
+ghost use mathlib.Core.Bool.{_&&_};
+ghost use mathlib.Core.List.{List};
+ghost use Prim.Native.Nat.{_≤_};
+ghost use lib.IntN.{ℤ};
+ghost use lib.Dec.{eqb};
+ghost use lib.ListN.{length};
+ghost use Rattle.entries.specs.declared.Entry.{Entry};
+ghost use Rattle.rules.specs.Answers.{check-open, lent};
+ghost use Rattle.checker.specs.Calls.{Opening, Stepping, opened-with, unopened-with};
+ghost use Rattle.checker.specs.Calls.{empty as empty-carried};
+ghost use Rattle.checker.specs.Running.{RunLent, Running, left-with, stored-with};
+use entries::Entry;
+use lent::Carried;
+use load::Loaded;
+use rules::Answer;
+use rules::Fault;
+use steps::Written;
+use table::Table;
+
+// The answer, and what is carried after it.
+pub struct Called {
+    pub answer: Answer,
+    pub carried: Carried,
+}
+
+// The same, and how many rows are to be put back.
+struct Ran {
+    pub called: Called,
+    pub count: usize,
+}
+
+// Nothing is put back.
+fn left(answer: Answer, c: Carried) -> Ran
+    ensures { λ r. ⌜ r ≡ left-with answer c ⌝ }
+{
+    Ran {
+        called: Called { answer, carried: c },
+        count: 0,
+    }
+}
+
+// The rows held go back, and what is carried is new.
+fn stored(answer: Answer, t: Table, stack: [u32; 1024]) -> Ran
+    ensures { λ r. ⌜ r ≡ stored-with answer t stack ⌝ }
+{
+    Ran {
+        called: Called {
+            answer,
+            carried: Carried {
+                vars: t.vars,
+                highest: t.highest,
+                count: t.count,
+                words: t.words,
+                depth: t.depth,
+                stack,
+            },
+        },
+        count: t.count as usize,
+    }
+}
+
+// The words, over all of the model buffer.
+fn write_model(model: &mut [u64], words: [u64; 32])
+    requires { ⌜ length (now model) ≡ 32 ⌝ }
+    ensures { λ _. ⌜ now (model .exit) ≡ words ⌝ }
+{
+    let mut i = 0;
+    while i < 32 {
+        model[i] = words[i];
+        i += 1;
+    }
+}
+
+// A frame on the rows of what is lent.
+fn run(rows: &mut [[u32; 5]], pool: &mut [i32], c: Carried, frame: &[i32], model: &mut [u64]) -> Ran
+    requires { ⌜ (length (now rows) ≤ 1024) × (length (now pool) ≤ 8192) × (length (now model) ≡ 32) ⌝ }
+    ensures { λ r. ⌜ Running c (now (rows .entry)) (now (pool .entry)) (now (frame .entry)) (now (model .entry)) r (now (rows .exit)) (now (pool .exit)) (now (model .exit)) ⌝ }
+{
+    let Loaded::Working(t) = load::load(rows, pool, c) else {
+        return left(Answer::Refused(Fault::NoState), c);
+    };
+    let mut stack = c.stack;
+    let mut words = [0u64; 32];
+    let s = steps::step(rows, pool, &mut stack, t, frame, &mut words);
+    let answer = s.answer;
+    let table = s.table;
+    let written = s.written;
+    match written {
+        Written::Nothing => left(answer, c),
+        Written::Tables => stored(answer, table, stack),
+        Written::Model => {
+            write_model(model, words);
+            left(answer, c)
+        }
+    }
+}
+
+// Sizes of entries, words and model buffer that are in range.
+fn in_sizes(entries: usize, words: usize, buffer: usize) -> bool
+    ensures { λ r. ⌜ r ≡ (lent entries words && eqb buffer 32) ⌝ }
+{
+    if entries == 0 {
+        return false;
+    }
+    if 1024 < entries {
+        return false;
+    }
+    if words == 0 {
+        return false;
+    }
+    if 8192 < words {
+        return false;
+    }
+    buffer == 32
+}
+
+// A frame on the rows of a table of n entries. Code 1 where the lent sizes or that of the model buffer are out of range.
+fn run_lent(
+    n: usize,
+    rows: &mut [[u32; 5]],
+    pool: &mut [i32],
+    c: Carried,
+    frame: &[i32],
+    model: &mut [u64],
+) -> Ran
+    requires { ⌜ length (now rows) ≡ 1024 ⌝ }
+    ensures { λ r. ⌜ RunLent n (now (rows .entry)) (now (pool .entry)) c (now (frame .entry)) (now (model .entry)) r (now (rows .exit)) (now (pool .exit)) (now (model .exit)) ⌝ }
+{
+    if in_sizes(n, pool.len(), model.len()) {
+        return run(&mut rows[..n], pool, c, frame, model);
+    }
+    left(Answer::Refused(Fault::NoState), c)
+}
+
+// One frame of any words on lent tables of any bits.
+pub fn step(
+    entries: &mut [Entry],
+    pool: &mut [i32],
+    carried: Carried,
+    frame: &[i32],
+    model: &mut [u64],
+) -> Called
+    ensures { λ r. ⌜ Stepping (now (entries .entry)) (now (pool .entry)) carried (now (frame .entry)) (now (model .entry)) r (now (entries .exit)) (now (pool .exit)) (now (model .exit)) ⌝ }
+{
+    let mut rows = entries::take_in(entries);
+    let r = run_lent(entries.len(), &mut rows, pool, carried, frame, model);
+    entries::put_back(entries, r.count, rows);
+    r.called
+}
+
+// What is carried of an empty state.
+fn empty(vars: u32) -> Carried
+    ensures { λ r. ⌜ r ≡ empty-carried vars ⌝ }
+{
+    Carried {
+        vars,
+        highest: 0,
+        count: 0,
+        words: 0,
+        depth: 0,
+        stack: [0u32; 1024],
+    }
+}
+
+fn unopened(fault: Fault) -> Called
+    ensures { λ r. ⌜ r ≡ unopened-with fault ⌝ }
+{
+    Called {
+        answer: Answer::Refused(fault),
+        carried: empty(0),
+    }
+}
+
+// Opening, by the lent sizes: 1, then 3. It neither reads nor writes the tables, "whatever the tables held".
+fn open_sized(vars: u32, entries: usize, words: usize) -> Called
+    ensures { λ r. ⌜ r ≡ opened-with vars (check-open vars entries words) ⌝ }
+{
+    if in_sizes(entries, words, 32) {
+        if vars == 0 {
+            return unopened(Fault::Literal(0));
+        }
+        if 2048 < vars {
+            return unopened(Fault::Literal(0));
+        }
+        return Called {
+            answer: Answer::Accepted(0),
+            carried: empty(vars),
+        };
+    }
+    unopened(Fault::NoState)
+}
+
+// Opens tables of these sizes.
+pub fn open(vars: u32, entries: usize, words: usize) -> Called
+    ensures { λ r. ⌜ ((es : List Entry) (ps : List ℤ) → length es ≡ entries → length ps ≡ words → Opening vars es ps r) ⌝ }
+{
+    open_sized(vars, entries, words)
+}

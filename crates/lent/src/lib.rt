@@ -1,0 +1,110 @@
+// What is lent and carried: that no two parts of the pool overlap, and that the stack lists each stacked clause once.
+ghost use mathlib.Core.Path.{_≡_};
+ghost use mathlib.Core.Bool.{true};
+ghost use mathlib.Core.List.{List};
+ghost use Prim.Native.Nat.{_<_, _≤_};
+ghost use lib.IntN.{ℤ};
+ghost use lib.ListN.{length};
+ghost use Rattle.rules.specs.Lists.{all, only};
+ghost use Rattle.table.specs.Spelled.{Rising, clauses, stands};
+ghost use Rattle.lent.specs.Marks.{Takes};
+ghost use Rattle.lent.specs.State.{clear, every-two, inside, lists};
+use table::Found;
+
+// What goes beside the lent tables: V, the highest id accepted, how many entries are held, how many words they hold, how many ids are on the stack,
+// and the stack's ids from its bottom.
+pub struct Carried {
+    pub vars: u32,
+    pub highest: u32,
+    pub count: u32,
+    pub words: u32,
+    pub depth: u32,
+    pub stack: [u32; 1024],
+}
+
+// ---- the parts of the pool
+
+// As a number that may be summed.
+pub fn wide(x: u32) -> usize
+    ensures { λ r. ⌜ (r ≡ x) × (r ≤ 4294967295) ⌝ }
+{
+    x as usize
+}
+
+// Marks the words of a part, from start to end; or false, where one of them was marked already. An empty part may lie anywhere.
+fn mark_part(marks: &mut [bool], start: usize, end: usize) -> bool
+    requires { ⌜ (start ≤ end) × (start < end → end ≤ length (now marks)) ⌝ }
+    ensures { λ r. ⌜ Takes (now (marks .entry)) start end r (now (marks .exit)) ⌝ }
+{
+    let mut w = start;
+    while w < end {
+        if marks[w] {
+            return false;
+        }
+        marks[w] = true;
+        w += 1;
+    }
+    true
+}
+
+// Whether no two parts overlap: no part has a word that an earlier part marked.
+pub fn are_apart(rows: &[[u32; 5]], words: usize) -> bool
+    requires { ⌜ (all (inside words) (now rows) ≡ true) × (words ≤ 8192) ⌝ }
+    ensures { λ r. ⌜ r ≡ every-two clear (now (rows .entry)) ⌝ }
+{
+    let mut marks = [false; 8192];
+    let mut i = 0;
+    while i < rows.len() {
+        let row = rows[i];
+        let start = wide(row[2]);
+        let end = start + (wide(row[3]) + wide(row[4]));
+        if !mark_part(&mut marks, start, end) {
+            return false;
+        }
+        i += 1;
+    }
+    true
+}
+
+// ---- the stack
+
+// How many rows are stacked.
+fn count_stacked(rows: &[[u32; 5]]) -> usize
+    ensures { λ r. ⌜ r ≡ length (only (stands 2) (now (rows .entry))) ⌝ }
+{
+    let mut n: usize = 0;
+    let mut k = 0;
+    while k < rows.len() {
+        if rows[k][1] == 2 {
+            n += 1;
+        }
+        k += 1;
+    }
+    n
+}
+
+// Whether the ids list each stacked clause once: as many as there are, and each a stacked clause's whose row is not marked yet.
+pub fn lists_each_once(rows: &[[u32; 5]], ids: &[u32]) -> bool
+    requires { ⌜ Rising (now rows) × (length (now rows) ≤ 1024) ⌝ }
+    ensures { λ r. ⌜ ((pool : List ℤ) → r ≡ lists (now (ids .entry)) (clauses 2 pool (now (rows .entry)))) ⌝ }
+{
+    if ids.len() != count_stacked(rows) {
+        return false;
+    }
+    let mut marks = [false; 1024];
+    let mut j = 0;
+    while j < ids.len() {
+        let Found::At(k) = table::find(rows, ids[j]) else {
+            return false;
+        };
+        if table::place_at(rows, k) != 2 {
+            return false;
+        }
+        if marks[k] {
+            return false;
+        }
+        marks[k] = true;
+        j += 1;
+    }
+    true
+}

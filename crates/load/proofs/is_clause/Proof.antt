@@ -1,0 +1,30 @@
+-- `load::is_clause` meets its contract.
+use mathlib.Core.Path.{sym, _∙_}
+use native.Mathlib.Omega.{arith}
+use Rattle.rules.proofs.Checks.{flaw-clause}
+use Rattle.load.proofs.Rights.{clause-long, clause-flawed}
+use borrow.Author.Needs.{needs}
+use Rattle.load.proofs.is_clause.Statement.{statement}
+use Rattle.load.proofs.is_clause.Tie as tie
+
+returns : tie.Need-returns
+returns c = let a = c .before .args in sym (clause-long (a .vars) (a .c .now) (c .if1 .taken))
+
+flaw-requires : tie.Need-flaw-requires
+flaw-requires c κs = search needs
+
+enum-told : tie.Need-enum-told
+enum-told c = search needs
+
+returns-2 : tie.Need-returns-2
+returns-2 c = let a = c .before .before .before .before .args in sym (clause-flawed (a .vars) 0 (a .c .now) _ (sym (c .before .before .flaw .ensures) ∙ c .enum-told .given .1))
+
+enum-told-2 : tie.Need-enum-told-2
+enum-told-2 c = search needs
+
+returns-3 : tie.Need-returns-3
+returns-3 c = let a = c .before .before .before .before .args in sym (flaw-clause (a .vars) 0 (a .c .now) (omega (arith, c .before .before .before .if1 .left)) (sym (c .before .before .flaw .ensures) ∙ c .enum-told2 .given .1))
+
+pub is-clause-spec : {M : Type 1} → statement M
+is-clause-spec =
+    tie.close (tie.spec returns flaw-requires enum-told returns-2 enum-told-2 returns-3)

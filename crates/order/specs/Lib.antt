@@ -1,0 +1,2 @@
+-- What the sort says of rows.
+pub mod Orders
