@@ -1,12 +1,9 @@
 // The public calls over the lent tables. Any bits may be handed in.
 ghost use mathlib.Core.Path.{_≡_};
 ghost use mathlib.Core.Bool.{_&&_};
-ghost use mathlib.Core.List.{List};
 ghost use Prim.Native.Nat.{_≤_};
-ghost use lib.IntN.{ℤ};
 ghost use lib.Dec.{eqb};
 ghost use lib.ListN.{length};
-ghost use Rattle.entries.specs.declared.Entry.{Entry};
 ghost use Rattle.rules.specs.Answers.{check-open, lent};
 ghost use Rattle.checker.specs.Calls.{Opening, Stepping, opened-with, unopened-with};
 ghost use Rattle.checker.specs.Calls.{empty as empty-carried};
@@ -192,9 +189,9 @@ fn open_sized(vars: u32, entries: usize, words: usize) -> Called
     unopened(Fault::NoState)
 }
 
-// Opens tables of these sizes.
-pub fn open(vars: u32, entries: usize, words: usize) -> Called
-    ensures { λ r. ⌜ ((es : List Entry) (ps : List ℤ) → length es ≡ entries → length ps ≡ words → Opening vars es ps r) ⌝ }
+// Opens the lent tables: it looks at nothing but their sizes, and writes nothing.
+pub fn open(vars: u32, entries: &[Entry], pool: &[i32]) -> Called
+    ensures { λ r. ⌜ Opening vars (now (entries .entry)) (now (pool .entry)) r ⌝ }
 {
-    open_sized(vars, entries, words)
+    open_sized(vars, entries.len(), pool.len())
 }

@@ -4,9 +4,10 @@ ghost use mathlib.Core.Bool.{true};
 ghost use Prim.Native.Nat.{_≤_};
 ghost use lib.ListN.{length};
 ghost use Rattle.table.specs.Spelled.{spelled};
+ghost use Rattle.table.proofs.Empty.{empty};
 ghost use Rattle.lines.specs.Machine.{line-of};
 ghost use Rattle.feed.specs.Replies.{Feedable};
-ghost use Rattle.zahrubel.specs.Through.{Through};
+ghost use Rattle.zahrubel.specs.Through.{Going, Through};
 use lines::Reader;
 use table::Table;
 
@@ -27,10 +28,12 @@ fn pump(
     t: Table,
     out: &mut [u8],
 ) -> Pumped
-    requires { ⌜ Feedable t (now rows) (now pool) (now stack) r (now frame) × (16401 ≤ length (now out)) ⌝ }
+    requires { ⌜ Feedable t (now rows) (now pool) (now stack) r (now frame) × (16401 ≤ length (now out))
+        × Going (line-of r (now frame)) (spelled t (now rows) (now pool) (now stack)) ⌝ }
     ensures fit { λ q. ⌜ Feedable (q .table) (now (rows .exit)) (now (pool .exit)) (now (stack .exit)) (q .reader) (now (frame .exit)) ⌝ }
     ensures through { λ q. ⌜ (q .sent ≡ true → Through (now (part .entry)) (line-of r (now (frame .entry))) (spelled t (now (rows .entry)) (now (pool .entry)) (now (stack .entry)))
-        (line-of (q .reader) (now (frame .exit))) (spelled (q .table) (now (rows .exit)) (now (pool .exit)) (now (stack .exit)))) ⌝ }
+        (line-of (q .reader) (now (frame .exit))) (spelled (q .table) (now (rows .exit)) (now (pool .exit)) (now (stack .exit)))
+        × Going (line-of (q .reader) (now (frame .exit))) (spelled (q .table) (now (rows .exit)) (now (pool .exit)) (now (stack .exit)))) ⌝ }
 {
     let mut from: usize = 0;
     let mut reader = r;
@@ -57,6 +60,19 @@ fn pump(
     }
 }
 
+fn opened() -> Table
+    ensures { λ r. ⌜ r ≡ empty 2048 ⌝ }
+{
+    Table {
+        vars: 2048,
+        highest: 0,
+        count: 0,
+        words: 0,
+        depth: 0,
+        top: 0,
+    }
+}
+
 fn main() {
     let mut buf = io::large_buffer();
     let mut out = io::large_buffer();
@@ -65,14 +81,7 @@ fn main() {
     let mut pool = [0i32; 8192];
     let mut stack = [0u32; 1024];
     let mut reader = lines::fresh();
-    let mut table = Table {
-        vars: 2048,
-        highest: 0,
-        count: 0,
-        words: 0,
-        depth: 0,
-        top: 0,
-    };
+    let mut table = opened();
     let mut turns = u64::MAX;
     while turns > 0 {
         let got = libc::read(0, &mut buf);

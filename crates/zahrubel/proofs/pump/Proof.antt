@@ -9,7 +9,7 @@ use Rattle.table.specs.Spelled.{spelled}
 use Rattle.lines.specs.Machine.{line-of}
 use Rattle.feed.specs.Replies.{Feedable}
 use Rattle.zahrubel.specs.Through.{Through}
-use Rattle.zahrubel.proofs.Passed.{through-none, through-more}
+use Rattle.zahrubel.proofs.Passed.{through-none, through-more, going-on}
 use borrow.Author.Needs.{needs}
 use Rattle.zahrubel.proofs.pump.Statement.{statement}
 use Rattle.zahrubel.proofs.pump.Tie as tie
@@ -81,7 +81,7 @@ same-length-10 : tie.Need-same-length-10 Inv-loop μ-loop
 same-length-10 c = search needs
 
 returns-2 : tie.Need-returns-2 Inv-loop μ-loop
-returns-2 c = let l = c .before .loop in (l .inv .1, (λ e. rw (take-all (l .from) _ (c .loop-test .left)) at (l .inv .3)))
+returns-2 c = let l = c .before .loop in (l .inv .1, (λ e. let t = rw (take-all (l .from) _ (c .loop-test .left)) at (l .inv .3) in (t, going-on (c .before .before .before .before .before .pre .2) _ t)))
 
 pub pump-spec : {M : Type 1} → statement M
 pump-spec =
