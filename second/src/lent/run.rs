@@ -180,10 +180,15 @@ impl History<'_> {
         self.say_over(tables, frame)
     }
 
-    /// The tables with sizes out of range. What is held is still held where the table grows.
+    /// The tables with sizes out of range. What is held is still held where the table grows; where
+    /// nothing is lent, now and then nothing is held, and only the size is wrong.
     fn resized(&mut self, kind: &str) -> Tables {
         let mut tables = self.tables.clone();
         let more = self.random.between(1, 3);
+        if kind.starts_with("no ") && self.random.one_in(2) {
+            let carried = &mut tables.carried;
+            (carried.count, carried.words, carried.depth) = (0, 0, 0);
+        }
         match kind {
             "no entries" => tables.entries.clear(),
             "too many entries" => tables

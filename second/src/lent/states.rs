@@ -62,7 +62,19 @@ pub fn reached(random: &mut Random) -> State {
             checker.step(&frame);
         }
     }
-    checker.state().clone()
+    fitted(checker.state().clone(), random)
+}
+
+/// The state with the sizes it came with, or with hardly any room left: then what is free lies in
+/// pieces, and the next clause or witness needs them all.
+fn fitted(mut state: State, random: &mut Random) -> State {
+    if random.one_in(3) {
+        state.words = (state.held_words() + random.below(4)).clamp(1, state.words);
+    }
+    if random.one_in(3) {
+        state.entries = (state.clauses() + random.below(3)).clamp(1, state.entries);
+    }
+    state
 }
 
 /// Any state at all.
@@ -91,7 +103,7 @@ pub fn any_state(random: &mut Random) -> State {
     if random.one_in(3) {
         state.highest = state.highest.saturating_add(random.below(50) as i32);
     }
-    state
+    fitted(state, random)
 }
 
 /// A clause that fits what is left of the words, in any place.
