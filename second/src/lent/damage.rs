@@ -167,17 +167,17 @@ fn id_twice(tables: &mut Tables, random: &mut Random) -> Option<()> {
     Some(())
 }
 
+/// Also numbers that are a place when cut to fewer bits, and stacked clauses that stay listed.
 fn no_place(tables: &mut Tables, random: &mut Random) -> Option<()> {
-    let at = find(tables, random, is_unstacked)?;
+    let at = find(tables, random, any)?;
+    let place = tables.entries[at].place;
     let wrong = [
         3,
         4,
-        255,
-        256,
-        1 << 16,
-        1 << 31,
         u32::MAX,
-        3 + random.below(99) as u32,
+        place + 256,
+        place | 1 << 16,
+        place | 1 << 31,
     ];
     tables.entries[at].place = wrong[random.below(wrong.len())];
     Some(())
