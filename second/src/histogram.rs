@@ -39,10 +39,15 @@ impl Asked {
         let mut words = Vec::new();
         match read_words(line, &mut words) {
             None => Asked::BadLine,
-            Some(()) => match words.first() {
-                Some(&operation @ 1..=9) => Asked::Operation(operation),
-                _ => Asked::Unknown,
-            },
+            Some(()) => Asked::of(&words),
+        }
+    }
+
+    /// What a frame asks for.
+    pub fn of(frame: &[i32]) -> Asked {
+        match frame.first() {
+            Some(&operation @ 1..=9) => Asked::Operation(operation),
+            _ => Asked::Unknown,
         }
     }
 }
@@ -88,9 +93,14 @@ impl Histogram {
             };
             let mut words = Vec::new();
             if read_words(answer, &mut words).is_some() && !words.is_empty() {
-                *self.times.entry((asked, words[0] as u32)).or_default() += 1;
+                self.count(asked, words[0] as u32);
             }
         }
+    }
+
+    /// Counts one answer.
+    pub fn count(&mut self, asked: Asked, code: u32) {
+        *self.times.entry((asked, code)).or_default() += 1;
     }
 
     pub fn times(&self, asked: Asked, code: u32) -> u64 {

@@ -8,6 +8,7 @@ pub mod frame;
 pub mod frames;
 pub mod histogram;
 pub mod judge;
+pub mod lent;
 pub mod lines;
 pub mod propagation;
 pub mod random;

@@ -9,6 +9,7 @@ ghost use Rattle.table.specs.Spelled.{clause-part, part, witness-part};
 ghost use Rattle.entries.specs.Lent.{clause-at, entry-at, entry-of, row-of, vacant-rows, witness-at};
 
 // The entry of a clause, as lent: its place and where its literals lie; `witness` counts the witness literals, which follow the clause's own.
+#[repr(C)]
 pub struct Entry {
     pub id: u32,
     pub place: u32,

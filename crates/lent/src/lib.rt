@@ -13,6 +13,7 @@ use table::Found;
 
 // What goes beside the lent tables: V, the highest id accepted, how many entries are held, how many words they hold, how many ids are on the stack,
 // and the stack's ids from its bottom.
+#[repr(C)]
 pub struct Carried {
     pub vars: u32,
     pub highest: u32,

@@ -6,9 +6,9 @@ mod edges;
 mod every_code;
 mod faults;
 mod histories;
-mod moves;
+pub(crate) mod moves;
 mod room;
-mod spoil;
+pub(crate) mod spoil;
 
 use crate::lines::opened;
 use author::Author;

@@ -46,7 +46,7 @@ fn spoil_once(frame: &mut Vec<i32>, state: &State, random: &mut Random) {
 }
 
 /// The id of a clause in any of the three places, or of one that is gone.
-fn any_id(state: &State, random: &mut Random) -> i32 {
+pub fn any_id(state: &State, random: &mut Random) -> i32 {
     let places = state.irredundant.keys().chain(state.learned.keys());
     let stacked = state.stack.iter().map(|record| record.id);
     let mut ids: Vec<i32> = places.copied().chain(stacked).collect();

@@ -1,0 +1,2 @@
+-- What the archive's functions come to.
+pub mod Exported

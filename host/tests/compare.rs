@@ -1,0 +1,22 @@
+//! Tens of thousands of calls through the archive, each compared with the second implementation:
+//! answer, state spelled afterwards, buffer, and every word where nothing may be written.
+
+mod common;
+
+use common::Linked;
+use second::lent::damage::DAMAGES;
+use second::lent::run::{run, Tally};
+
+#[test]
+fn the_archive_and_the_second_agree() {
+    let mut tally = Tally::default();
+    for seed in 0..2_000 {
+        if let Err(difference) = run(&mut Linked, seed, &mut tally) {
+            panic!("seed {seed}\n{difference}\n{tally}");
+        }
+    }
+    assert!(tally.calls > 40_000, "{tally}");
+    for (name, _) in DAMAGES {
+        assert!(tally.wrong.contains_key(name), "never tried: {name}");
+    }
+}

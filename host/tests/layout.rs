@@ -1,0 +1,44 @@
+//! The layout that the archive, the header and this crate must agree on.
+
+use std::mem::{align_of, offset_of, size_of};
+use zahrubel::{Answer, Carried, Entry};
+
+#[test]
+fn an_entry_is_five_words() {
+    assert_eq!((size_of::<Entry>(), align_of::<Entry>()), (20, 4));
+    let offsets = [
+        offset_of!(Entry, id),
+        offset_of!(Entry, place),
+        offset_of!(Entry, start),
+        offset_of!(Entry, length),
+        offset_of!(Entry, witness),
+    ];
+    assert_eq!(offsets, [0, 4, 8, 12, 16]);
+    assert_eq!(size_of::<[Entry; 1_024]>(), 20 * 1_024);
+}
+
+#[test]
+fn what_is_carried_is_five_words_and_the_stack() {
+    assert_eq!(
+        (size_of::<Carried>(), align_of::<Carried>()),
+        (4 * 1_029, 4)
+    );
+    let offsets = [
+        offset_of!(Carried, vars),
+        offset_of!(Carried, highest),
+        offset_of!(Carried, count),
+        offset_of!(Carried, words),
+        offset_of!(Carried, depth),
+        offset_of!(Carried, stack),
+    ];
+    assert_eq!(offsets, [0, 4, 8, 12, 16, 20]);
+}
+
+#[test]
+fn an_answer_is_two_words_of_64_bits() {
+    assert_eq!((size_of::<Answer>(), align_of::<Answer>()), (16, 8));
+    assert_eq!(
+        (offset_of!(Answer, code), offset_of!(Answer, detail)),
+        (0, 8)
+    );
+}
