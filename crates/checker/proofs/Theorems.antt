@@ -12,9 +12,9 @@ use lib.IntN.{ℤ}
 use lib.ListN.{length, getD}
 use borrow.Author.Tests.{eq-eqb}
 use Rattle.rules.specs.Terms.{Assignment, State}
-use Rattle.rules.specs.Frames.{SAT, UNSAT, framed, parse, offered}
+use Rattle.rules.specs.Frames.{Frame, SAT, UNSAT, framed, parse, offered}
 use Rattle.rules.specs.Answers.{Handed, untouched, mended, Outcome, outcome}
-use Rattle.rules.specs.Histories.{models, Models, Assumes, Unwitnessed, Unopposed}
+use Rattle.rules.specs.Histories.{models, Models, Assumes, Unwitnessed, Unopposed, Accepts, SameLiterals, SameClauses}
 use Rattle.rules.specs.declared.Answer.the-variants.{Accepted, Refused}
 use Rattle.rules.specs.declared.Fault.the-variants.{NoState}
 use Rattle.rules.proofs.Lists.{by-cases}
@@ -100,12 +100,13 @@ module _ {entries : List Entry} {pool : List ℤ} {c : Carried} {added : List (L
       judged-so : said entries pool c frame model ≡ some (outcome (h .history .state) frame)
       judged-so = said-paper h frame model r entries′ pool′ model′ s (accepted-with-32 n e)
 
-      accepted-so : outcome (h .history .state) frame .answer ≡ Accepted n
-      accepted-so = sym (s .answered ∙ ap answer-to judged-so) ∙ e
+      -- it was accepted in the history's state
+      pub accepts : (f : Frame) → parse frame ≡ framed f → Accepts (h .history .state) frame f
+      accepts f p = record { parsed = p; changed = n; accepted = sym (s .answered ∙ ap answer-to judged-so) ∙ e }
 
       pub sat-is-a-model : (assumed vs : List ℤ) → parse frame ≡ framed (SAT assumed vs) → Mended entries pool c added assumed vs model′
       sat-is-a-model assumed vs p =
-          let m = paper.accepted-sat (h .history) (h .reached) frame assumed vs (record { parsed = p; changed = n; accepted = accepted-so }) in
+          let m = paper.accepted-sat (h .history) (h .reached) frame assumed vs (accepts (SAT assumed vs) p) in
           let w : assigned model′ ≡ m .0 = subst (λ x. Wrote x model model′) (ap handed-by judged-so ∙ m .1) (s .handed) in
           record {
             of-added = subst (λ cs. Models (assigned model′) cs) (h .adds) (subst (λ α. Models α (h .history .added)) (sym w) (m .2 .of-added));
@@ -115,7 +116,7 @@ module _ {entries : List Entry} {pool : List ℤ} {c : Carried} {added : List (L
 
       pub unsat-is-true : (assumed hints : List ℤ) → parse frame ≡ framed (UNSAT assumed hints) → (α : Assignment) → Models α added → Assumes α assumed → ⊥
       unsat-is-true assumed hints p α m =
-          paper.accepted-unsat (h .history) (h .reached) frame assumed hints (record { parsed = p; changed = n; accepted = accepted-so }) α (subst (λ cs. Models α cs) (sym (h .adds)) m)
+          paper.accepted-unsat (h .history) (h .reached) frame assumed hints (accepts (UNSAT assumed hints) p) α (subst (λ cs. Models α cs) (sym (h .adds)) m)
 
   -- whenever no assumption is the opposite of a stacked witness literal, added clauses and irredundant clauses agree on yes and no
   pub same-yes-and-no : (st : State) → state-lent entries pool c ≡ some st → (assumed : List ℤ) → Unopposed st assumed →
@@ -124,3 +125,19 @@ module _ {entries : List Entry} {pool : List ℤ} {c : Carried} {added : List (L
       subst (λ cs. ((α : Assignment) × Models α cs × Assumes α assumed) ↔ ((α : Assignment) × (models α (st .irredundant) ≡ true) × Assumes α assumed)) (h .adds)
       (subst (λ (x : State). ((α : Assignment) × Models α (h .history .added) × Assumes α assumed) ↔ ((α : Assignment) × (models α (x .irredundant) ≡ true) × Assumes α assumed)) (sym (same-state st d))
       (paper.same-answers (h .history) (h .reached) assumed (subst (λ x. Unopposed x assumed) (same-state st d) u)))
+
+-- 3. Order-free: two chains whose added clauses are the same set, in whatever order and with whatever other calls, never have SAT accepted in one and UNSAT in the other under assumptions that are
+-- the same set.
+module _ {entries : List Entry} {pool : List ℤ} {c : Carried} {added : List (List ℤ)} (k : Chain entries pool c added)
+    {entries₂ : List Entry} {pool₂ : List ℤ} {c₂ : Carried} {added₂ : List (List ℤ)} (l : Chain entries₂ pool₂ c₂ added₂) (same : SameClauses added added₂)
+    (assumed denied : List ℤ) (alike : SameLiterals assumed denied) where
+  pub never-both : (frame : List ℤ) (model : List ℕ) (r : Called) (entries′ : List Entry) (pool′ : List ℤ) (model′ : List ℕ) → Stepping entries pool c frame model r entries′ pool′ model′ →
+      (n : ℕ) → r .answer ≡ Accepted n → (vs : List ℤ) → parse frame ≡ framed (SAT assumed vs) →
+      (frame₂ : List ℤ) (model₂ : List ℕ) (q : Called) (entries₂′ : List Entry) (pool₂′ : List ℤ) (model₂′ : List ℕ) → Stepping entries₂ pool₂ c₂ frame₂ model₂ q entries₂′ pool₂′ model₂′ →
+      (m : ℕ) → q .answer ≡ Accepted m → (hints : List ℤ) → parse frame₂ ≡ framed (UNSAT denied hints) → ⊥
+  never-both frame model r entries′ pool′ model′ s n e vs p frame₂ model₂ q entries₂′ pool₂′ model₂′ t m d hints u =
+      let g = h k in
+      let f = h l in
+      paper.order-free (g .history) (f .history) (g .reached) (f .reached)
+      (subst (λ cs. SameClauses cs (f .history .added)) (sym (g .adds)) (subst (λ cs. SameClauses added cs) (sym (f .adds)) same)) assumed denied alike
+      frame vs (accepts k frame model r entries′ pool′ model′ s n e (SAT assumed vs) p) frame₂ hints (accepts l frame₂ model₂ q entries₂′ pool₂′ model₂′ t m d (UNSAT denied hints) u)
