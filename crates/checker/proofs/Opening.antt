@@ -18,6 +18,7 @@ use Rattle.table.specs.Spelled.{Fit}
 use Rattle.table.proofs.Empty as working
 use Rattle.entries.specs.Lent.{row-of}
 use Rattle.entries.specs.declared.Entry.{Entry}
+use Rattle.lent.proofs.Sizes.{lent-most}
 use Rattle.lent.proofs.Stored.{stored-is-state, stored-spells}
 use Rattle.checker.specs.Calls.{state-lent, empty, opened-with, Opening}
 use Rattle.checker.specs.declared.Called.{Called}
@@ -50,11 +51,8 @@ module _ (vars : ℕ) (entries : List Entry) (pool : List ℤ) (k : check-open v
   unfolding check-open
   in-range = need-true _ _ (then-right _ _ k)
 
-  rows-lent : length entries ≤ 1024
-  rows-lent = leb-true (length entries) 1024 (and-right (ltb 0 (length entries)) _ (and-left (ltb 0 (length entries) && leb (length entries) 1024) _ fits))
-
-  pool-lent : length pool ≤ 8192
-  pool-lent = leb-true (length pool) 8192 (and-right (ltb 0 (length pool)) _ (and-right (ltb 0 (length entries) && leb (length entries) 1024) _ fits))
+  most : (length entries ≤ 1024) × (length pool ≤ 8192)
+  most = lent-most (length entries) (length pool) fits
 
   empty-fits : Fit (working.empty vars) (map row-of entries) pool (replicate 1024 0)
   empty-fits =
@@ -62,7 +60,7 @@ module _ (vars : ℕ) (entries : List Entry) (pool : List ℤ) (k : check-open v
       let ids : List ℕ = replicate 1024 0 in
       let n : length ids ≡ 1024 = length-replicate {A = ℕ} 1024 0 in
       working.empty-fit vars (map row-of entries) pool ids (ltb-true 0 vars (and-left (ltb 0 vars) _ in-range)) (leb-true vars 2048 (and-right (ltb 0 vars) _ in-range))
-      (omega (arith, m, rows-lent)) pool-lent (omega (arith, m, n, rows-lent))
+      (omega (arith, m, most .0)) (most .1) (omega (arith, m, n, most .0))
 
   pub spells-opened : state-lent entries pool (empty vars) ≡ some (opened vars (length entries) (length pool))
   spells-opened =

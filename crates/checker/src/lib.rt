@@ -98,19 +98,10 @@ fn run(rows: &mut [[u32; 5]], pool: &mut [i32], c: Carried, frame: &[i32], model
 fn in_sizes(entries: usize, words: usize, buffer: usize) -> bool
     ensures { λ r. ⌜ r ≡ (lent entries words && eqb buffer 32) ⌝ }
 {
-    if entries == 0 {
-        return false;
+    if lent::in_sizes(entries, words) {
+        return buffer == 32;
     }
-    if 1024 < entries {
-        return false;
-    }
-    if words == 0 {
-        return false;
-    }
-    if 8192 < words {
-        return false;
-    }
-    buffer == 32
+    false
 }
 
 // A frame on the rows of a table of n entries. Code 1 where the lent sizes or that of the model buffer are out of range.
@@ -174,7 +165,7 @@ fn unopened(fault: Fault) -> Called
 fn open_sized(vars: u32, entries: usize, words: usize) -> Called
     ensures { λ r. ⌜ r ≡ opened-with vars (check-open vars entries words) ⌝ }
 {
-    if in_sizes(entries, words, 32) {
+    if lent::in_sizes(entries, words) {
         if vars == 0 {
             return unopened(Fault::Literal(0));
         }

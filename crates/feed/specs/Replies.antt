@@ -1,5 +1,4 @@
 -- What a line's reply lists, and what feeding may lean on.
-use mathlib.Core.Path.{_≡_}
 use mathlib.Core.List.{List, []}
 use Prim.Native.Nat.{ℕ, _≤_}
 use lib.IntN.{ℤ}
@@ -18,9 +17,8 @@ listed Nothing model = []
 listed Tables model = []
 listed Model model = trues (assigned model) 2048 []
 
--- working tables of V = 2,048, a reader and its frame buffer
+-- working tables, a reader and its frame buffer
 pub record Feedable (t : Table) (rows : List Row) (pool : List ℤ) (stack : List ℕ) (r : Reader) (frame : List ℤ) : Type 0 where
   pub fit : Fit t rows pool stack
-  pub vars : t .vars ≡ 2048
   pub most : r .digits ≤ 32768
   pub wide : 4096 ≤ length frame

@@ -5,6 +5,7 @@ ghost use mathlib.Core.List.{List};
 ghost use Prim.Native.Nat.{_<_, _≤_};
 ghost use lib.IntN.{ℤ};
 ghost use lib.ListN.{length};
+ghost use Rattle.rules.specs.Answers.{lent};
 ghost use Rattle.rules.specs.Lists.{all, only};
 ghost use Rattle.table.specs.Spelled.{Rising, clauses, stands};
 ghost use Rattle.lent.specs.Marks.{Takes};
@@ -21,6 +22,22 @@ pub struct Carried {
     pub words: u32,
     pub depth: u32,
     pub stack: [u32; 1024],
+}
+
+// Lent sizes, of entries and of words, that are in range.
+pub fn in_sizes(entries: usize, words: usize) -> bool
+    ensures { λ r. ⌜ r ≡ lent entries words ⌝ }
+{
+    if entries == 0 {
+        return false;
+    }
+    if 1024 < entries {
+        return false;
+    }
+    if words == 0 {
+        return false;
+    }
+    words <= 8192
 }
 
 // ---- the parts of the pool

@@ -27,12 +27,12 @@ pub record Feeding (part : List ℕ) (from : ℕ) (r₀ : Run) (at size : ℕ) (
   pub begun : ((i ≡ from) × (a ≡ at)) ⊎ (from < i)
   pub most : r .digits ≤ 32768
   pub room : a ≤ size
-  pub vars : s .vars ≡ 2048
+  pub vars : s .vars ≤ 2048
   pub wide : 4096 ≤ length frame
   pub kept : length out ≡ size
 
 pub feeding-start : (part : List ℕ) (from : ℕ) (r : Reader) (frame : List ℤ) (s : State) (out : List ℕ) (a : ℕ)
-    → from ≤ length part → r .digits ≤ 32768 → a ≤ length out → s .vars ≡ 2048 → 4096 ≤ length frame
+    → from ≤ length part → r .digits ≤ 32768 → a ≤ length out → s .vars ≤ 2048 → 4096 ≤ length frame
     → Feeding part from (run-of r frame s out a) a (length out) frame out from a r s
 unfolding run
 feeding-start part from r frame s out a h m k v w = record {
@@ -92,7 +92,7 @@ module _ {part : List ℕ} {from : ℕ} {r₀ : Run} {at size : ℕ} {frame₁ :
   unfolding move
   feeding-close {r′} {s′} {out′} {a′} h e z k c l =
       let empty : line-of r′ frame₁ ≡ fresh = fresh-line (r′ .digits) (r′ .word) (r′ .spoilt) z in
-      let far = reply-room (s .vars) (judged s (frame (line-of r frame₁))) (omega (arith, f .vars)) (c .wrote) in
+      let far = reply-room (s .vars) (judged s (frame (line-of r frame₁))) (f .vars) (c .wrote) in
       record {
         low = omega (arith, f .low);
         high = omega arith;
@@ -100,7 +100,7 @@ module _ {part : List ℕ} {from : ℕ} {r₀ : Run} {at size : ℕ} {frame₁ :
         begun = inr (omega (arith, f .low));
         most = omega (arith, z .0);
         room = omega (arith, far);
-        vars = ap (λ x. x .vars) (c .state) ∙ vars-kept s (frame (line-of r frame₁)) ∙ f .vars;
+        vars = omega (arith, ap (λ x. x .vars) (c .state), vars-kept s (frame (line-of r frame₁)), f .vars);
         wide = f .wide;
         kept = l ∙ f .kept;
       }

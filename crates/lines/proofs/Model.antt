@@ -52,7 +52,7 @@ module _ (α : Assignment) where
       ∙ ap (λ l. spelled (trues α n []) ++ l) (append-nil (hex 8 (suc n))))
 
   -- none of the next k is true
-  trues-past : (n k : ℕ) → ((v : ℕ) → n < v → v ≤ n + k → α v ≡ false) → trues α (n + k) [] ≡ trues α n []
+  pub trues-past : (n k : ℕ) → ((v : ℕ) → n < v → v ≤ n + k → α v ≡ false) → trues α (n + k) [] ≡ trues α n []
   unfolding trues
   trues-past n zero f = rw add-zero
   trues-past n (suc k) f =

@@ -34,7 +34,7 @@ returns : tie.Need-returns
 returns c =
     let a = c .before .before .before .before .before .before .before .before .before .before .before .before .before .before .before .before .before .before .before .before .before .args in
     let s = c .before .before .before .before .before .before .before .before .before .before .step .ensures in
-    (s .fit, close-framed (a .t) (a .rows .now) (a .pool .now) (a .stack .now) (a .r) (a .frame .now) (c .before .before .before .before .before .before .before .before .before .before .before .before .before .before .before .before .before .before .before .before .before .pre .0 .vars) (sym (c .before .before .before .before .before .before .before .before .before .before .before .before .before .before .before .before .before .before .is-framed .ensures) ∙ c .before .before .before .before .before .before .before .before .before .before .before .before .before .before .before .before .before .if1 .taken) s (c .before .before .put-reply .ensures))
+    (s .fit, close-framed (a .t) (a .rows .now) (a .pool .now) (a .stack .now) (a .r) (a .frame .now) (c .before .before .before .before .before .before .before .before .before .before .before .before .before .before .before .before .before .before .before .before .before .pre .0 .fit) (sym (c .before .before .before .before .before .before .before .before .before .before .before .before .before .before .before .before .before .before .is-framed .ensures) ∙ c .before .before .before .before .before .before .before .before .before .before .before .before .before .before .before .before .before .if1 .taken) s (c .before .before .put-reply .ensures))
 
 put-answer-requires : tie.Need-put-answer-requires
 put-answer-requires c κs = search needs

@@ -43,7 +43,7 @@ values-requires : tie.Need-values-requires Inv-loop μ-loop
 values-requires c κs = search needs
 
 loop-holds : tie.Need-loop-holds Inv-loop μ-loop
-loop-holds c = let p = c .before .before .before .before .pre in let a = c .before .before .before .before .args in (feeding-start _ _ (a .r) _ (spelled (a .t) (a .rows .now) (a .pool .now) (a .stack .now)) _ _ (p .1) (p .0 .most) (p .2) (p .0 .vars) (p .0 .wide), p .0 .fit, c .values .ensures, refl, refl, refl, refl)
+loop-holds c = let p = c .before .before .before .before .pre in let a = c .before .before .before .before .args in (feeding-start _ _ (a .r) _ (spelled (a .t) (a .rows .now) (a .pool .now) (a .stack .now)) _ _ (p .1) (p .0 .most) (p .2) (p .0 .fit .vars-fit .1) (p .0 .wide), p .0 .fit, c .values .ensures, refl, refl, refl, refl)
 
 sub-if1 : tie.Need-sub-if1 Inv-loop μ-loop
 sub-if1 c = search needs
@@ -58,7 +58,7 @@ add-i : tie.Need-add-i Inv-loop μ-loop
 add-i c = search needs
 
 close-requires : tie.Need-close-requires Inv-loop μ-loop
-close-requires c κs = let x = c .before .before .before .before .before .before in let f = words x in (record { fit = x .before .before .before .before .before .before .before .before .before .loop .inv .1; vars = f .vars; most = f .most; wide = f .wide }, room x)
+close-requires c κs = let x = c .before .before .before .before .before .before in let f = words x in (record { fit = x .before .before .before .before .before .before .before .before .before .loop .inv .1; most = f .most; wide = f .wide }, room x)
 
 fresh-requires : tie.Need-fresh-requires Inv-loop μ-loop
 fresh-requires c κs = search needs
@@ -102,7 +102,7 @@ same-length-5 : tie.Need-same-length-5 Inv-loop μ-loop
 same-length-5 c = search needs
 
 returns : tie.Need-returns Inv-loop μ-loop
-returns c = let l = c .before .loop in let f = l .inv .0 in (record { fit = l .inv .1; vars = f .vars; most = f .most; wide = f .wide }, fed-end f (c .loop-test .left))
+returns c = let l = c .before .loop in let f = l .inv .0 in (record { fit = l .inv .1; most = f .most; wide = f .wide }, fed-end f (c .loop-test .left))
 
 same-length-6 : tie.Need-same-length-6 Inv-loop μ-loop
 same-length-6 c = search needs
@@ -120,7 +120,7 @@ same-length-10 : tie.Need-same-length-10 Inv-loop μ-loop
 same-length-10 c = search needs
 
 returns-2 : tie.Need-returns-2 Inv-loop μ-loop
-returns-2 c = let l = c .before .before .loop in let f = l .inv .0 in (record { fit = l .inv .1; vars = f .vars; most = f .most; wide = f .wide }, fed-room f (omega (arith, c .if1 .taken, f .kept)))
+returns-2 c = let l = c .before .before .loop in let f = l .inv .0 in (record { fit = l .inv .1; most = f .most; wide = f .wide }, fed-room f (omega (arith, c .if1 .taken, f .kept)))
 
 same-length-11 : tie.Need-same-length-11 Inv-loop μ-loop
 same-length-11 c = search needs
@@ -141,7 +141,7 @@ returns-3 : tie.Need-returns-3 Inv-loop μ-loop
 returns-3 c =
     let l = c .before .before .before .before .before .before .before .before .loop in
     let f = feeding-words (l .inv .0) (c .before .before .before .take-words .ensures) (c .before .before .before .take-words .kept .1 .1 .1 .1 .0) in
-    (record { fit = l .inv .1; vars = f .vars; most = f .most; wide = f .wide }, fed-end f (omega (arith, c .if2 .taken)))
+    (record { fit = l .inv .1; most = f .most; wide = f .wide }, fed-end f (omega (arith, c .if2 .taken)))
 
 pub feed-spec : {M : Type 1} → statement M
 feed-spec =

@@ -1,0 +1,2 @@
+-- What giving a part comes to, for every input.
+pub mod Giving
