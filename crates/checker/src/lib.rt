@@ -162,7 +162,7 @@ fn unopened(fault: Fault) -> Called
 }
 
 // Opening, by the lent sizes: 1, then 3. It neither reads nor writes the tables, "whatever the tables held".
-fn open_sized(vars: u32, entries: usize, words: usize) -> Called
+pub fn open_sized(vars: u32, entries: usize, words: usize) -> Called
     ensures { λ r. ⌜ r ≡ opened-with vars (check-open vars entries words) ⌝ }
 {
     if lent::in_sizes(entries, words) {

@@ -11,6 +11,7 @@ use Rattle.parts.proofs.Apart.{sized, copy-long, copy-front, gives}
 use borrow.Author.Needs.{needs}
 use Rattle.parts.proofs.run_apart.Statement.{statement}
 use Rattle.parts.proofs.run_apart.Tie as tie
+
 sizes : (x : tie.After-copied-arg) → Sized (x .before .before .before .args .rows .now) (x .before .before .before .args .pool .now) (x .before .before .before .args .r) (x .before .before .before .args .frame .now)
 sizes x = sized _ _ _ _ (x .before .before .before .pre)
 

@@ -1,19 +1,14 @@
--- The buffers keep their sizes, and the tables fit.
+-- The buffers keep their sizes, and what was read since the opening goes on.
 use mathlib.Core.Path.{_≡_, refl, sym, ap}
 use mathlib.Core.Bool.{Bool, true, false, not}
 use Prim.Native.Nat.{ℕ}
 use native.Mathlib.Omega.{arith}
 use lib.IntN.{pos}
-use lib.ListN.{length, replicate, length-replicate}
+use lib.ListN.{length, replicate, length-replicate, length-take}
 use lib.Seq.{length-take-le}
-use Rattle.table.specs.Spelled.{spelled}
-use Rattle.table.specs.declared.Table.{Table}
-use Rattle.table.proofs.Empty.{empty-fit}
-use Rattle.lines.specs.Machine.{line-of}
 use Rattle.lines.proofs.Replies.{ended-room}
-use Rattle.feed.specs.Replies.{Feedable}
 use Rattle.zahrubel.specs.Through.{Going}
-use Rattle.zahrubel.proofs.Passed.{going-start}
+use Rattle.zahrubel.proofs.Passed.{opens-empty, going-start}
 use borrow.Author.Needs.{needs}
 use Rattle.zahrubel.proofs.main.Statement.{statement}
 use Rattle.zahrubel.proofs.main.Tie as tie
@@ -23,12 +18,11 @@ unturned true e = refl
 unturned false e = sym e
 
 abbrev Inv-loop : tie.InvT-loop
-Inv-loop buf₀ out₀ frame₀ rows₀ pool₀ stack₀ reader₀ table₀ turns₀ buf out frame rows pool stack reader table turns =
-    (65536 ≡ length buf) × (65536 ≡ length out) × (4096 ≡ length frame) × (1024 ≡ length rows) × (8192 ≡ length pool) × (1024 ≡ length stack) × Feedable table rows pool stack reader frame
-    × Going (line-of reader frame) (spelled table rows pool stack)
+Inv-loop buf₀ out₀ frame₀ rows₀ pool₀ reader₀ carried₀ turns₀ buf out frame rows pool reader carried turns =
+    (65536 ≡ length buf) × (65536 ≡ length out) × (4096 ≡ length frame) × (1024 ≡ length rows) × (8192 ≡ length pool) × Going rows pool carried reader frame
 
 abbrev μ-loop : tie.MeasureT-loop
-μ-loop buf₀ out₀ frame₀ rows₀ pool₀ stack₀ reader₀ table₀ turns₀ buf out frame rows pool stack reader table turns = turns
+μ-loop buf₀ out₀ frame₀ rows₀ pool₀ reader₀ carried₀ turns₀ buf out frame rows pool reader carried turns = turns
 
 large-buffer-requires : tie.Need-large-buffer-requires Inv-loop μ-loop
 large-buffer-requires c κs = search needs
@@ -39,20 +33,18 @@ large-buffer-requires-2 c κs = search needs
 fresh-requires : tie.Need-fresh-requires Inv-loop μ-loop
 fresh-requires c κs = search needs
 
-opened-requires : tie.Need-opened-requires Inv-loop μ-loop
-opened-requires c κs = search needs
+open-sized-requires : tie.Need-open-sized-requires Inv-loop μ-loop
+open-sized-requires c κs = search needs
 
 loop-holds : tie.Need-loop-holds Inv-loop μ-loop
 loop-holds c =
-    let t = c .opened .ensures in (
+    let opened = opens-empty (c .before .open-sized .result) (c .before .open-sized .ensures) in (
       search needs,
       search needs,
       search needs,
       search needs,
       search needs,
-      search needs,
-      record { fit = rw t (empty-fit 2048 _ _ _ (omega arith) (omega arith) (search needs) (search needs) (search needs)); vars = ap (λ (x : Table). x .vars) t; most = omega (arith, c .before .fresh .ensures .0); wide = search needs },
-      rw t (going-start _ _ (c .before .fresh .ensures) (replicate 1024 (replicate {A = ℕ} 5 0)) (replicate 8192 (pos 0)) (replicate {A = ℕ} 1024 0) (length-replicate 1024 (replicate {A = ℕ} 5 0)) (length-replicate 8192 (pos 0))),
+      rw opened (going-start _ (replicate 4096 (pos 0)) (c .before .before .fresh .ensures) (replicate 1024 (replicate {A = ℕ} 5 0)) (replicate 8192 (pos 0)) (length-replicate 1024 (replicate {A = ℕ} 5 0)) (length-replicate 8192 (pos 0)) (length-replicate 4096 (pos 0))),
     )
 
 slice-aggregate-read : tie.Need-slice-aggregate-read Inv-loop μ-loop
@@ -103,23 +95,20 @@ slice-aggregate-pump-4 c = search needs
 slice-aggregate-pump-5 : tie.Need-slice-aggregate-pump-5 Inv-loop μ-loop
 slice-aggregate-pump-5 c = search needs
 
-slice-aggregate-pump-6 : tie.Need-slice-aggregate-pump-6 Inv-loop μ-loop
-slice-aggregate-pump-6 c = search needs
-
 pump-requires : tie.Need-pump-requires Inv-loop μ-loop
-pump-requires c κs = let l = c .before .before .before .before .before .before .before .before .before .before .before .before .before .loop in (l .inv .6, omega (arith, l .inv .1), l .inv .7)
+pump-requires c κs = let l = c .before .before .before .before .before .before .before .before .before .before .before .before .loop in (l .inv .5, omega (arith, l .inv .1), omega (arith, length-take (c .before .before .before .before .before .before .count .result) (c .before .before .before .before .before .before .before .before .before .read .last .1 .0), c .before .before .before .before .before .before .before .before .before .read .kept .1 .0, l .inv .0))
 
 returns-2 : tie.Need-returns-2 Inv-loop μ-loop
 returns-2 c = search needs
 
 sub-turns : tie.Need-sub-turns Inv-loop μ-loop
-sub-turns c = omega (arith, c .before .before .before .before .before .before .before .before .before .before .before .before .before .before .before .before .before .before .before .before .before .before .loop-test .taken)
+sub-turns c = omega (arith, c .before .before .before .before .before .before .before .before .before .before .before .before .before .before .before .before .before .before .before .before .loop-test .taken)
 
 loop-less : tie.Need-loop-less Inv-loop μ-loop
-loop-less c = omega (arith, c .before .before .before .before .before .before .before .before .before .before .before .before .before .before .before .before .before .before .before .before .before .before .loop-test .taken)
+loop-less c = omega (arith, c .before .before .before .before .before .before .before .before .before .before .before .before .before .before .before .before .before .before .before .before .loop-test .taken)
 
 loop-again : tie.Need-loop-again Inv-loop μ-loop
-loop-again c = (search needs, search needs, search needs, search needs, search needs, search needs, c .before .before .before .before .before .before .before .before .before .pump .ensures .0, c .before .before .before .before .before .before .before .before .before .pump .ensures .1 (unturned _ (c .before .before .if2 .left)) .1)
+loop-again c = (search needs, search needs, search needs, search needs, search needs, c .before .before .before .before .before .before .before .before .pump .ensures (unturned _ (c .before .before .if2 .left)) .1)
 
 returns-3 : tie.Need-returns-3 Inv-loop μ-loop
 returns-3 c = search needs
@@ -133,7 +122,7 @@ main-spec =
     large-buffer-requires
     large-buffer-requires-2
     fresh-requires
-    opened-requires
+    open-sized-requires
     loop-holds
     slice-aggregate-read
     read-requires
@@ -151,7 +140,6 @@ main-spec =
     slice-aggregate-pump-3
     slice-aggregate-pump-4
     slice-aggregate-pump-5
-    slice-aggregate-pump-6
     pump-requires
     returns-2
     sub-turns

@@ -1,39 +1,65 @@
--- Each feed takes the machine further; what it wrote is sent before the next.
+-- Each call takes the machine further; what it wrote is sent before the next.
 use mathlib.Core.Path.{_≡_, refl, sym, _∙_}
 use mathlib.Core.Bool.{false≢true}
-use Prim.Native.Nat.{_-_, _≤_}
+use mathlib.Core.Option.{some}
+use Prim.Native.Nat.{_+_, _-_, _≤_, _<_}
 use native.Mathlib.Omega.{arith}
 use lib.ListN.{length, take}
 use lib.Seq.{take-all, length-take-le}
-use Rattle.table.specs.Spelled.{spelled}
+use Rattle.rules.specs.Terms.{State}
 use Rattle.lines.specs.Machine.{line-of}
-use Rattle.feed.specs.Replies.{Feedable}
-use Rattle.zahrubel.specs.Through.{Through}
-use Rattle.zahrubel.proofs.Passed.{through-none, through-more, going-on}
+use Rattle.parts.specs.Giving.{met}
+use Rattle.zahrubel.specs.Through.{At}
+use Rattle.zahrubel.proofs.Passed.{at-none, at-more, at-high, at-room, at-onward, onward}
 use borrow.Author.Needs.{needs}
 use Rattle.zahrubel.proofs.pump.Statement.{statement}
 use Rattle.zahrubel.proofs.pump.Tie as tie
 
 abbrev Inv-loop : tie.InvT-loop
-Inv-loop part frame₀ rows₀ pool₀ stack₀ out₀ from₀ reader₀ table₀ frame rows pool stack out from reader table =
-    (from ≤ length part) × Feedable table rows pool stack reader frame × (16401 ≤ length out)
-    × Through (take from part) (line-of reader₀ frame₀) (spelled table₀ rows₀ pool₀ stack₀) (line-of reader frame) (spelled table rows pool stack)
-    × (length frame ≡ length frame₀) × (length rows ≡ length rows₀) × (length pool ≡ length pool₀) × (length stack ≡ length stack₀) × (length out ≡ length out₀)
+Inv-loop part frame₀ rows₀ pool₀ out₀ from₀ reader₀ carried₀ frame rows pool out from reader carried =
+    (from ≤ length part) × ((s : State) → met rows₀ pool₀ carried₀ reader₀ frame₀ ≡ some s → At (take from part) (line-of reader₀ frame₀) s rows pool carried reader frame) × (16401 ≤ length out)
+    × (length frame ≡ length frame₀) × (length rows ≡ length rows₀) × (length pool ≡ length pool₀) × (length out ≡ length out₀)
 
 abbrev μ-loop : tie.MeasureT-loop
-μ-loop part frame₀ rows₀ pool₀ stack₀ out₀ from₀ reader₀ table₀ frame rows pool stack out from reader table = length part - from
+μ-loop part frame₀ rows₀ pool₀ out₀ from₀ reader₀ carried₀ frame rows pool out from reader carried = length part - from
+
+-- a call, at the turn's head and behind it
+module _ (x : tie.After-give Inv-loop μ-loop) where
+  before-it : At (take (x .before .before .before .before .before .before .before .loop .from) (x .before .before .before .before .before .before .before .before .before .before .args .part .now)) (line-of (x .before .before .before .before .before .before .before .before .before .before .args .r) (x .before .before .before .before .before .before .before .before .before .before .args .frame .now)) (x .before .before .before .before .before .before .before .before .before .before .pre .0 .1 .now-state) (x .before .before .before .before .before .before .before .loop .rows) (x .before .before .before .before .before .before .before .loop .pool) (x .before .before .before .before .before .before .before .loop .carried) (x .before .before .before .before .before .before .before .loop .reader) (x .before .before .before .before .before .before .before .loop .frame)
+  before-it = x .before .before .before .before .before .before .before .loop .inv .1 _ (x .before .before .before .before .before .before .before .before .before .before .pre .0 .1 .spells)
+
+  high : x .before .before .before .before .before .before .before .loop .from + x .give .result .taken ≤ length (x .before .before .before .before .before .before .before .before .before .before .args .part .now)
+  high = at-high _ _ (x .before .before .before .before .before .before .before .loop .inv .0) before-it (x .give .ensures)
+
+  more : 0 < x .give .result .taken
+  more = at-onward _ _ (x .before .before .before .before .before .before .before .loop .inv .0) before-it (x .give .ensures) (x .before .before .before .before .before .before .loop-test .taken) (x .before .before .before .before .before .before .before .loop .inv .2)
+
+  room : x .give .result .written ≤ length (x .before .before .before .before .before .before .before .loop .out)
+  room = at-room _ _ (x .before .before .before .before .before .before .before .loop .inv .0) before-it (x .give .ensures)
 
 loop-holds : tie.Need-loop-holds Inv-loop μ-loop
-loop-holds c = let p = c .before .before .before .pre in (omega arith, p .0, omega (arith, p .1), through-none (c .before .before .before .args .part .now) _ _, refl, refl, refl, refl, refl)
+loop-holds c = (omega arith, (λ s e. at-none (c .before .before .args .part .now) s e), omega (arith, c .before .before .pre .1), refl, refl, refl, refl)
 
-feed-requires : tie.Need-feed-requires Inv-loop μ-loop
-feed-requires c κs = let l = c .before .before .before .before .before .before .loop in (l .inv .1, l .inv .0, omega arith)
+sub-give : tie.Need-sub-give Inv-loop μ-loop
+sub-give c = search needs
+
+part-give-start : tie.Need-part-give-start Inv-loop μ-loop
+part-give-start c = search needs
+
+part-give-end : tie.Need-part-give-end Inv-loop μ-loop
+part-give-end c = search needs
+
+give-requires : tie.Need-give-requires Inv-loop μ-loop
+give-requires c κs = search needs
+
+add-from : tie.Need-add-from Inv-loop μ-loop
+add-from c = omega (arith, high (c .before .before .before .before .before .before), c .before .before .before .before .before .before .before .before .before .before .before .before .before .before .before .before .pre .2)
 
 slice-reshare-prefix-write-all : tie.Need-slice-reshare-prefix-write-all Inv-loop μ-loop
-slice-reshare-prefix-write-all c = omega (arith, c .before .before .before .before .before .before .before .before .before .feed .ensures .1 .room, c .before .before .before .before .before .before .before .before .before .feed .kept)
+slice-reshare-prefix-write-all c = let x = c .before .before .before .before .before .before .before .before in omega (arith, room x, x .give .kept .1 .1 .1 .1 .1 .1 .0)
 
 slice-aggregate-write-all : tie.Need-slice-aggregate-write-all Inv-loop μ-loop
-slice-aggregate-write-all c = sym (length-take-le _ _ (search needs))
+slice-aggregate-write-all c = let x = c .before .before .before .before .before .before .before .before .before in sym (length-take-le _ _ (omega (arith, room x, x .give .kept .1 .1 .1 .1 .1 .1 .0)))
 
 write-all-requires : tie.Need-write-all-requires Inv-loop μ-loop
 write-all-requires c κs = search needs
@@ -50,20 +76,21 @@ same-length-3 c = search needs
 same-length-4 : tie.Need-same-length-4 Inv-loop μ-loop
 same-length-4 c = search needs
 
-same-length-5 : tie.Need-same-length-5 Inv-loop μ-loop
-same-length-5 c = search needs
-
 returns : tie.Need-returns Inv-loop μ-loop
-returns c = (c .before .before .before .before .before .before .before .before .before .before .before .before .feed .ensures .0, (λ e. absurd (false≢true e)))
+returns c = λ e. absurd (false≢true e)
 
 loop-less : tie.Need-loop-less Inv-loop μ-loop
-loop-less c = let f = c .before .before .before .before .before .before .before .before .before .before .before .before .feed .ensures .1 in omega (arith, f .onward (c .before .before .before .before .before .before .before .before .before .before .before .before .before .before .before .before .before .before .loop-test .taken) (omega (arith, c .before .before .before .before .before .before .before .before .before .before .before .before .before .before .before .before .before .before .before .loop .inv .2)), f .high)
+loop-less c = let x = c .before .before .before .before .before .before .before .before .before .before .before in omega (arith, more x, high x)
 
 loop-again : tie.Need-loop-again Inv-loop μ-loop
 loop-again c =
-    let l = c .before .before .before .before .before .before .before .before .before .before .before .before .before .before .before .before .before .before .before .loop in
-    let f = c .before .before .before .before .before .before .before .before .before .before .before .before .feed in
-    (f .ensures .1 .high, f .ensures .0, omega (arith, l .inv .2, f .kept .1 .1 .1 .1 .1 .1 .1 .1 .0), through-more (c .before .before .before .before .before .before .before .before .before .before .before .before .before .before .before .before .before .before .before .before .before .before .before .args .part .now) (l .from) (l .inv .3) (f .ensures .1), f .kept .1 .1 .1 .0 ∙ l .inv .4, f .kept .1 .1 .1 .1 .0 ∙ l .inv .5, f .kept .1 .1 .1 .1 .1 .0 ∙ l .inv .6, f .kept .1 .1 .1 .1 .1 .1 .0 ∙ l .inv .7, f .kept .1 .1 .1 .1 .1 .1 .1 .1 .0 ∙ l .inv .8)
+    let x = c .before .before .before .before .before .before .before .before .before .before .before in
+    let l = x .before .before .before .before .before .before .before .loop in
+    let k = x .give .kept in
+    (high x, (λ s e. at-more _ _ (l .inv .0) (l .inv .1 s e) (x .give .ensures)), omega (arith, l .inv .2, k .1 .1 .1 .1 .1 .1 .0), k .1 .1 .1 .1 .0 ∙ l .inv .3, k .0 ∙ l .inv .4, k .1 .0 ∙ l .inv .5, k .1 .1 .1 .1 .1 .1 .0 ∙ l .inv .6)
+
+same-length-5 : tie.Need-same-length-5 Inv-loop μ-loop
+same-length-5 c = search needs
 
 same-length-6 : tie.Need-same-length-6 Inv-loop μ-loop
 same-length-6 c = search needs
@@ -74,14 +101,11 @@ same-length-7 c = search needs
 same-length-8 : tie.Need-same-length-8 Inv-loop μ-loop
 same-length-8 c = search needs
 
-same-length-9 : tie.Need-same-length-9 Inv-loop μ-loop
-same-length-9 c = search needs
-
-same-length-10 : tie.Need-same-length-10 Inv-loop μ-loop
-same-length-10 c = search needs
-
 returns-2 : tie.Need-returns-2 Inv-loop μ-loop
-returns-2 c = let l = c .before .loop in (l .inv .1, (λ e. let t = rw (take-all (l .from) _ (c .loop-test .left)) at (l .inv .3) in (t, going-on (c .before .before .before .before .before .pre .2) _ t)))
+returns-2 c =
+    let l = c .before .loop in
+    let p = c .before .before .before .before .pre in
+    λ e. onward _ (p .0) (rw (take-all (l .from) _ (c .loop-test .left)) at (l .inv .1 _ (p .0 .1 .spells)))
 
 pub pump-spec : {M : Type 1} → statement M
 pump-spec =
@@ -90,7 +114,11 @@ pump-spec =
     Inv-loop
     μ-loop
     loop-holds
-    feed-requires
+    sub-give
+    part-give-start
+    part-give-end
+    give-requires
+    add-from
     slice-reshare-prefix-write-all
     slice-aggregate-write-all
     write-all-requires
@@ -98,13 +126,11 @@ pump-spec =
     same-length-2
     same-length-3
     same-length-4
-    same-length-5
     returns
     loop-less
     loop-again
+    same-length-5
     same-length-6
     same-length-7
     same-length-8
-    same-length-9
-    same-length-10
     returns-2)
