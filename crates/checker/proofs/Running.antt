@@ -23,10 +23,11 @@ use Rattle.table.specs.declared.Table.{Table}
 use Rattle.lent.specs.State.{is-state, state-of, spelled}
 use Rattle.lent.specs.declared.Carried.{Carried}
 use Rattle.lent.proofs.Stored.{stored-is-state, stored-spells}
-use Rattle.steps.specs.Applied.{unless-refused, writes, Wrote, Steps}
-use Rattle.steps.specs.declared.Stepped.{Stepped}
-use Rattle.steps.specs.declared.Written.{Written}
-use Rattle.steps.specs.declared.Written.the-variants.{Nothing, Tables, Model}
+use Rattle.apply.specs.Applied.{unless-refused, Wrote}
+use Rattle.apply.specs.declared.Stepped.{Stepped}
+use Rattle.apply.specs.declared.Written.{Written}
+use Rattle.apply.specs.declared.Written.the-variants.{Nothing, Tables, Model}
+use Rattle.steps.specs.Steps.{Steps, writes}
 use Rattle.checker.specs.Calls.{judged}
 use Rattle.checker.specs.Running.{Running, left-with, stored-with}
 

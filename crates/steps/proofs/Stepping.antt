@@ -17,10 +17,11 @@ use Rattle.rules.specs.declared.Answer.{Answer}
 use Rattle.rules.specs.declared.Answer.the-variants.{Accepted, Refused}
 use Rattle.table.specs.Spelled.{Row, spelled, Fit}
 use Rattle.table.specs.declared.Table.{Table}
-use Rattle.steps.specs.Applied.{answer-of, refused-with, unless-refused, answered-with, Same, Applied, Answered, Steps, writes}
-use Rattle.steps.specs.declared.Stepped.{Stepped}
-use Rattle.steps.specs.declared.Written.{Written}
-use Rattle.steps.specs.declared.Written.the-variants.{Nothing, Tables}
+use Rattle.apply.specs.Applied.{answer-of, refused-with, unless-refused, answered-with, Same, Applied, Answered}
+use Rattle.apply.specs.declared.Stepped.{Stepped}
+use Rattle.apply.specs.declared.Written.{Written}
+use Rattle.apply.specs.declared.Written.the-variants.{Nothing, Tables}
+use Rattle.steps.specs.Steps.{Steps, writes}
 
 -- ---- the frame's lists, as slices of its words
 

@@ -3,10 +3,10 @@ use Rattle.rules.specs.Frames.{Frame, ADD}
 use Rattle.rules.specs.Answers.{check}
 use Rattle.rules.specs.declared.Check.the-variants.{Passed}
 use Rattle.table.specs.Spelled.{spelled}
-use Rattle.steps.proofs.Passing.{refused, accepted, NewClause, add-passed}
+use Rattle.apply.proofs.Passing.{refused, accepted, NewClause, add-passed}
 use borrow.Author.Needs.{needs}
-use Rattle.steps.proofs.add.Statement.{statement}
-use Rattle.steps.proofs.add.Tie as tie
+use Rattle.apply.proofs.add.Statement.{statement}
+use Rattle.apply.proofs.add.Tie as tie
 
 -- what was judged
 module _ (x : tie.After-judge-add) where

@@ -1,21 +1,21 @@
--- A frame, judged and applied: the paper's answer; where it passes, the tables spell the paper's next state; where it does not, they are as they were.
+-- An operation, judged and applied: the paper's answer; where it passes, the tables spell the paper's next state; where it does not, they are as they were.
 use mathlib.Core.Path.{_≡_}
 use mathlib.Core.List.{List}
 use Prim.Native.Nat.{ℕ}
 use lib.IntN.{ℤ}
-use Rattle.rules.specs.Frames.{Frame, ADD, LEARN, FORGET, PROMOTE, DROP, WEAKEN, RESTORE, SAT, UNSAT, Parsed, malformed, framed, parse}
-use Rattle.rules.specs.Answers.{check, Handed, untouched, mended, settled, outcome}
+use Rattle.rules.specs.Frames.{Frame}
+use Rattle.rules.specs.Answers.{check, Handed, untouched, mended, settled}
 use Rattle.rules.specs.declared.Fault.{Fault}
 use Rattle.rules.specs.declared.Check.{Check}
 use Rattle.rules.specs.declared.Check.the-variants.{Passed, Failed}
 use Rattle.rules.specs.declared.Answer.{Answer}
 use Rattle.rules.specs.declared.Answer.the-variants.{Accepted, Refused}
 use Rattle.words.specs.Words.{assigned}
-use Rattle.table.specs.Spelled.{Row, spelled, Fit, Moved}
+use Rattle.table.specs.Spelled.{Row, spelled, Moved}
 use Rattle.table.specs.declared.Table.{Table}
-use Rattle.steps.specs.declared.Stepped.{Stepped}
-use Rattle.steps.specs.declared.Written.{Written}
-use Rattle.steps.specs.declared.Written.the-variants.{Nothing, Tables, Model}
+use Rattle.apply.specs.declared.Stepped.{Stepped}
+use Rattle.apply.specs.declared.Written.{Written}
+use Rattle.apply.specs.declared.Written.the-variants.{Nothing, Tables}
 
 -- the answer to a frame that hands out no model
 abbrev pub answer-of : Check → Answer
@@ -57,26 +57,3 @@ Wrote (mended α β) model model′ = assigned model′ ≡ β
 pub record Answered (t : Table) (rows : List Row) (pool : List ℤ) (stack : List ℕ) (f : Frame) (r : Answer) (model model′ : List ℕ) : Type 0 where
   pub answered : r ≡ settled (spelled t rows pool stack) f (check (spelled t rows pool stack) f) .answer
   pub handed : Wrote (settled (spelled t rows pool stack) f (check (spelled t rows pool stack) f) .handed) model model′
-
--- "SAT and UNSAT never write the tables; only an accepted SAT writes the model buffer": what an accepted frame writes
-abbrev pub writes : Parsed → Written
-writes malformed = Nothing
-writes (framed (ADD i c)) = Tables
-writes (framed (LEARN i c hints)) = Tables
-writes (framed (FORGET i)) = Tables
-writes (framed (PROMOTE i)) = Tables
-writes (framed (DROP i hints)) = Tables
-writes (framed (WEAKEN i w ws)) = Tables
-writes (framed (RESTORE i)) = Tables
-writes (framed (SAT assumed vs)) = Model
-writes (framed (UNSAT assumed hints)) = Nothing
-
--- a frame's words: the paper's answer, the state that the tables spell after it, the model buffer, and what was written; whatever did not write the tables
--- left every word of them
-pub record Steps (t : Table) (rows : List Row) (pool : List ℤ) (stack : List ℕ) (ws : List ℤ) (r : Stepped) (rows′ : List Row) (pool′ : List ℤ) (stack′ : List ℕ) (model model′ : List ℕ) : Type 0 where
-  pub answered : r .answer ≡ outcome (spelled t rows pool stack) ws .answer
-  pub fit : Fit (r .table) rows′ pool′ stack′
-  pub state : spelled (r .table) rows′ pool′ stack′ ≡ outcome (spelled t rows pool stack) ws .state
-  pub handed : Wrote (outcome (spelled t rows pool stack) ws .handed) model model′
-  pub told : r .written ≡ unless-refused (writes (parse ws)) (r .answer)
-  pub left : (r .written ≡ Tables → ⊥) → Same t rows pool stack (r .table) rows′ pool′ stack′

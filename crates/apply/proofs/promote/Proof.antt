@@ -6,10 +6,10 @@ use mathlib.Core.Path.{_≡_}
 use Rattle.table.specs.Spelled.{Fit, spelled}
 use Rattle.table.proofs.Moves.{row-held}
 use Rattle.judge.specs.Judged.{RowOf, Judges}
-use Rattle.steps.proofs.Passing.{refused, accepted, refusal, at-row, of-id}
+use Rattle.apply.proofs.Passing.{refused, accepted, refusal, at-row, of-id}
 use borrow.Author.Needs.{needs}
-use Rattle.steps.proofs.promote.Statement.{statement}
-use Rattle.steps.proofs.promote.Tie as tie
+use Rattle.apply.proofs.promote.Statement.{statement}
+use Rattle.apply.proofs.promote.Tie as tie
 
 -- what was judged
 module _ (x : tie.After-judge-learned) where

@@ -24,7 +24,7 @@ use Rattle.judge.specs.Judged.{RowOf, Judges}
 use Rattle.judge.specs.declared.Judged.{Judged}
 use Rattle.judge.specs.declared.Judged.the-variants as judged
 use Rattle.judge.proofs.Located.{fetches-it}
-use Rattle.steps.specs.Applied.{answer-of, refused-with, accepted-with, Applied}
+use Rattle.apply.specs.Applied.{answer-of, refused-with, accepted-with, Applied}
 
 -- ---- an application
 

@@ -6,10 +6,10 @@ use Rattle.rules.specs.declared.Check.the-variants.{Passed}
 use Rattle.table.specs.Spelled.{Fit, spelled}
 use Rattle.judge.specs.Judged.{RowOf, Judges}
 use Rattle.table.specs.Spelled.{Weakenable}
-use Rattle.steps.proofs.Passing.{refused, accepted, refusal, at-row, of-id, weakenable}
+use Rattle.apply.proofs.Passing.{refused, accepted, refusal, at-row, of-id, weakenable}
 use borrow.Author.Needs.{needs}
-use Rattle.steps.proofs.weaken.Statement.{statement}
-use Rattle.steps.proofs.weaken.Tie as tie
+use Rattle.apply.proofs.weaken.Statement.{statement}
+use Rattle.apply.proofs.weaken.Tie as tie
 
 -- what was judged
 module _ (x : tie.After-judge-weaken) where
