@@ -11,7 +11,8 @@ use Rattle.rules.specs.declared.Check.the-variants.{Passed, Failed}
 use Rattle.rules.specs.declared.Answer.{Answer}
 use Rattle.rules.specs.declared.Answer.the-variants.{Accepted, Refused}
 use Rattle.words.specs.Words.{assigned}
-use Rattle.table.specs.Spelled.{Row, spelled, Moved}
+use Rattle.table.specs.Spelled.{Row, spelled}
+use Rattle.writes.specs.Moved.{Moved}
 use Rattle.table.specs.declared.Table.{Table}
 use Rattle.apply.specs.declared.Stepped.{Stepped}
 use Rattle.apply.specs.declared.Written.{Written}

@@ -81,7 +81,7 @@ pub fn add(
     if let Check::Failed(fault) = check {
         return refused(fault, t);
     }
-    accepted(table::append(rows, pool, t, 0, id, c))
+    accepted(writes::append(rows, pool, t, 0, id, c))
 }
 
 pub fn learn(
@@ -100,7 +100,7 @@ pub fn learn(
     if let Check::Failed(fault) = check {
         return refused(fault, t);
     }
-    accepted(table::append(rows, pool, t, 1, id, c))
+    accepted(writes::append(rows, pool, t, 1, id, c))
 }
 
 pub fn forget(rows: &mut [[u32; 5]], pool: &[i32], stack: &[u32], t: Table, id: u32) -> Stepped
@@ -110,7 +110,7 @@ pub fn forget(rows: &mut [[u32; 5]], pool: &[i32], stack: &[u32], t: Table, id: 
     let judged = judge::judge_learned(rows, pool, stack, t, id);
     match judged {
         Judged::Refused(fault) => refused(fault, t),
-        Judged::Accepted(k) => accepted(table::remove(rows, t, k)),
+        Judged::Accepted(k) => accepted(writes::remove(rows, t, k)),
     }
 }
 
@@ -121,7 +121,7 @@ pub fn promote(rows: &mut [[u32; 5]], pool: &[i32], stack: &[u32], t: Table, id:
     let judged = judge::judge_learned(rows, pool, stack, t, id);
     match judged {
         Judged::Refused(fault) => refused(fault, t),
-        Judged::Accepted(k) => accepted(table::promote(rows, t, k)),
+        Judged::Accepted(k) => accepted(writes::promote(rows, t, k)),
     }
 }
 
@@ -139,7 +139,7 @@ pub fn drop_clause(
     let judged = judge::judge_drop(rows, pool, stack, t, id, hints);
     match judged {
         Judged::Refused(fault) => refused(fault, t),
-        Judged::Accepted(k) => accepted(table::remove(rows, t, k)),
+        Judged::Accepted(k) => accepted(writes::remove(rows, t, k)),
     }
 }
 
@@ -158,7 +158,7 @@ pub fn weaken(
     let judged = groups::judge_weaken(rows, pool, stack, t, id, w, ws);
     match judged {
         Judged::Refused(fault) => refused(fault, t),
-        Judged::Accepted(k) => accepted(table::weaken(rows, pool, stack, t, k, w)),
+        Judged::Accepted(k) => accepted(writes::weaken(rows, pool, stack, t, k, w)),
     }
 }
 
@@ -169,7 +169,7 @@ pub fn restore(rows: &mut [[u32; 5]], pool: &[i32], stack: &mut [u32], t: Table,
     let judged = judge::judge_restore(rows, pool, stack, t, id);
     match judged {
         Judged::Refused(fault) => refused(fault, t),
-        Judged::Accepted(k) => accepted(table::restore(rows, stack, t, k)),
+        Judged::Accepted(k) => accepted(writes::restore(rows, stack, t, k)),
     }
 }
 

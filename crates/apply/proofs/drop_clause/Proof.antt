@@ -4,7 +4,7 @@ use Rattle.rules.specs.Answers.{check}
 use Rattle.rules.specs.declared.Check.the-variants.{Passed}
 use mathlib.Core.Path.{_≡_}
 use Rattle.table.specs.Spelled.{Fit, spelled}
-use Rattle.table.proofs.Moves.{row-held}
+use Rattle.writes.proofs.Moves.{row-held}
 use Rattle.judge.specs.Judged.{RowOf, Judges}
 use Rattle.apply.proofs.Passing.{refused, accepted, refusal, at-row, of-id}
 use borrow.Author.Needs.{needs}

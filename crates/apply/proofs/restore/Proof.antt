@@ -5,7 +5,8 @@ use Rattle.rules.specs.Answers.{check}
 use Rattle.rules.specs.declared.Check.the-variants.{Passed}
 use Rattle.table.specs.Spelled.{Fit, spelled}
 use Rattle.judge.specs.Judged.{RowOf, Judges}
-use Rattle.table.proofs.Moves.{row-held, row-stacked}
+use Rattle.table.proofs.Readers.{row-stacked}
+use Rattle.writes.proofs.Moves.{row-held}
 use Rattle.apply.proofs.Passing.{refused, accepted, refusal, at-row, of-id}
 use borrow.Author.Needs.{needs}
 use Rattle.apply.proofs.restore.Statement.{statement}

@@ -5,7 +5,7 @@ use Rattle.rules.specs.Answers.{check}
 use Rattle.rules.specs.declared.Check.the-variants.{Passed}
 use Rattle.table.specs.Spelled.{Fit, spelled}
 use Rattle.judge.specs.Judged.{RowOf, Judges}
-use Rattle.table.specs.Spelled.{Weakenable}
+use Rattle.writes.specs.Moved.{Weakenable}
 use Rattle.apply.proofs.Passing.{refused, accepted, refusal, at-row, of-id, weakenable}
 use borrow.Author.Needs.{needs}
 use Rattle.apply.proofs.weaken.Statement.{statement}

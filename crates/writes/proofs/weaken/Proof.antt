@@ -5,17 +5,19 @@ use Prim.Native.Nat.{_+_, _-_, _≤_}
 use native.Mathlib.Omega.{arith}
 use lib.IntN.{ℤ}
 use lib.ListN.{length, set, take, drop}
-use Rattle.table.specs.Spelled.{Row, row-at, length-of, size, clause-part, Inside, Fit, Weakenable}
-use Rattle.table.specs.Room.{Roomy, lessened, blank-row}
+use Rattle.table.specs.Spelled.{Row, row-at, length-of, size, clause-part, Inside, Fit}
+use Rattle.writes.specs.Moved.{Weakenable}
+use Rattle.writes.specs.Room.{Roomy, lessened, blank-row}
 use Rattle.table.specs.declared.Table.{Table}
 use Rattle.slices.proofs.Slices.{part-is, over-front}
 use Rattle.table.proofs.Rows.{clause-length}
-use Rattle.table.proofs.Moves.{row-held, row-inside, row-short}
-use Rattle.table.proofs.Packing.{roomy-is}
-use Rattle.table.proofs.Weakening.{blank-fit, record-numbers, weaken-moves}
+use Rattle.table.proofs.Readers.{row-inside}
+use Rattle.writes.proofs.Moves.{row-held, row-short}
+use Rattle.writes.proofs.Packing.{roomy-is}
+use Rattle.writes.proofs.Weakening.{blank-fit, record-numbers, weaken-moves}
 use borrow.Author.Needs.{needs}
-use Rattle.table.proofs.weaken.Statement.{statement}
-use Rattle.table.proofs.weaken.Tie as tie
+use Rattle.writes.proofs.weaken.Statement.{statement}
+use Rattle.writes.proofs.weaken.Tie as tie
 
 -- the row as it was, and the words of it that are copied out
 module _ (c : tie.After-wide2) where

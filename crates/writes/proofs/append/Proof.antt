@@ -3,10 +3,10 @@ use Prim.Native.Nat.{_+_, _<_, _≤_}
 use native.Mathlib.Omega.{arith}
 use lib.ListN.{length}
 use Rattle.slices.proofs.Slices.{length-tail, tail-written}
-use Rattle.table.proofs.Packing.{roomy-lengths, add-after, learn-after}
+use Rattle.writes.proofs.Packing.{roomy-lengths, add-after, learn-after}
 use borrow.Author.Needs.{needs}
-use Rattle.table.proofs.append.Statement.{statement}
-use Rattle.table.proofs.append.Tie as tie
+use Rattle.writes.proofs.append.Statement.{statement}
+use Rattle.writes.proofs.append.Tie as tie
 
 -- the numbers after room was made
 module _ (c : tie.After-make-room) where

@@ -11,16 +11,18 @@ use lib.Seq.{length-take-le, getD-take, split-at, append-snoc}
 use borrow.Author.Tests.{eq-eqb}
 use Rattle.rules.specs.Terms.{is-clause}
 use Rattle.rules.specs.Frames.{Frame, ADD, LEARN, FORGET, PROMOTE, DROP, RESTORE, plain, next}
 use Rattle.table.specs.Facts.{All, none}
-use Rattle.table.specs.Spelled.{Row, row-at, id-of, place-of, start-of, length-of, witness-of, size, part, clause-part, witness-part, held, stands, held-rows, from-top, spelled, Inside, Lawful, Listed, Core, Fit, Moved, New, RowHeld, Entry, entry}
-use Rattle.slices.specs.Writes.{written, closed, Among}
+use Rattle.table.specs.Spelled.{Row, row-at, id-of, place-of, start-of, length-of, witness-of, size, part, clause-part, witness-part, held, stands, held-rows, from-top, spelled, Inside, Lawful, Listed, Core, Fit, Entry, entry}
+use Rattle.writes.specs.Moved.{Moved, New, RowHeld}
+use Rattle.slices.specs.Writes.{written, closed}
 use Rattle.table.specs.declared.Table.{Table}
 use Rattle.table.proofs.Facts.{all-here, all-more, all-map, all-unmap, total-cut}
-use Rattle.slices.proofs.Slices.{in-reverse, among-of, take-next, take-swap, take-closed, length-closed, written-before, written-part, length-written}
-use Rattle.table.proofs.Entries.{spell, clauses-spell, spell-unseen, has-here}
-use Rattle.table.proofs.Stacked.{listed-in, listed-leave}
-use Rattle.table.proofs.Changes.{state-of, entry-of, added, learnt, forgotten, dropped, promoted, restored}
+use Rattle.slices.proofs.Slices.{take-next, take-swap, take-closed, length-closed, written-before, written-part, length-written}
+use Rattle.table.proofs.Entries.{entry-of, spell, clauses-spell, spell-unseen}
+use Rattle.table.proofs.Stacked.{listed-leave}
+use Rattle.writes.proofs.Changes.{state-of, added, learnt, forgotten, dropped, promoted, restored}
 use Rattle.table.proofs.Rows.{lawful-clause, clause-length, clause-short, entries-split, earlier, later, others-clear, own, listed-here, plain-row, listed-cut, core-cut, clear-tail, clear-less, Comes, entries-put, core-put}
+use Rattle.table.proofs.Readers.{row-inside}
 
 pub spelled-is : (t : Table) (rows : List Row) (pool : List ℤ) (stack : List ℕ) → spelled t rows pool stack ≡ state-of (t .vars) (t .highest) (length rows) (length pool) (map (entry pool) (held-rows t rows)) (from-top t stack)
 spelled-is t rows pool stack =
@@ -243,14 +245,8 @@ module _ {t : Table} {rows : List Row} {pool : List ℤ} {stack : List ℕ} (f :
     pub row-held : RowHeld t rows at
     row-held = (h, f .rows-fit, size-within)
 
-    pub row-inside : Inside (length pool) r
-    row-inside = omega (arith, ends, f .pool-fit)
-
     pub row-short : length-of r ≤ 256
-    row-short = omega (arith, clause-length pool r row-inside, clause-short (t .vars) (clause-part pool r) own-clause)
-
-    pub row-stacked : place-of r ≡ 2 → Among stack (t .depth) (id-of r)
-    row-stacked e = among-of (t .depth) stack (in-reverse _ (listed-in (listed-here us r bs core-at) (id-of r) (has-here 2 (entry pool r) (eq-eqb (place-of r) 2 e) es fs)))
+    row-short = omega (arith, clause-length pool r (row-inside f at h), clause-short (t .vars) (clause-part pool r) own-clause)
 
     -- ---- PROMOTE
 

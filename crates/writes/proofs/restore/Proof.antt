@@ -1,8 +1,8 @@
 -- `table::restore` meets its contract: the law of RESTORE, at the place of the id that was found.
-use Rattle.table.proofs.Moves.{restore-moves}
+use Rattle.writes.proofs.Moves.{restore-moves}
 use borrow.Author.Needs.{needs}
-use Rattle.table.proofs.restore.Statement.{statement}
-use Rattle.table.proofs.restore.Tie as tie
+use Rattle.writes.proofs.restore.Statement.{statement}
+use Rattle.writes.proofs.restore.Tie as tie
 
 mul-row : tie.Need-mul-row
 mul-row c = search needs

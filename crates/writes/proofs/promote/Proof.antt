@@ -1,8 +1,8 @@
 -- `table::promote` meets its contract: the law of PROMOTE.
-use Rattle.table.proofs.Moves.{promote-moves}
+use Rattle.writes.proofs.Moves.{promote-moves}
 use borrow.Author.Needs.{needs}
-use Rattle.table.proofs.promote.Statement.{statement}
-use Rattle.table.proofs.promote.Tie as tie
+use Rattle.writes.proofs.promote.Statement.{statement}
+use Rattle.writes.proofs.promote.Tie as tie
 
 mul-row : tie.Need-mul-row
 mul-row c = search needs

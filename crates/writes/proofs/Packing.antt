@@ -11,16 +11,17 @@ use lib.ListN.{length, getD, set, take, drop, length-drop, length-append}
 use lib.Seq.{take-append-le, length-take-le, take-suc, drop-cons, split-at, getD-take, take-at, drop-at, getD-at, set-at, append-snoc, take-take, drop-drop, take-add}
 use Rattle.rules.specs.Terms.{State, is-clause}
 use Rattle.rules.specs.Frames.{Frame, ADD, LEARN, next}
 use Rattle.table.specs.Facts.{All, none, both, Pairs, alone, ahead, total}
-use Rattle.table.specs.Spelled.{Row, row-at, id-of, start-of, length-of, witness-of, size, part, clause-part, witness-part, held-rows, Rising, Inside, Clear, Fit, Moved, New, Entry, entry}
+use Rattle.table.specs.Spelled.{Row, row-at, id-of, start-of, length-of, witness-of, size, part, clause-part, witness-part, held-rows, Rising, Inside, Clear, Fit, Entry, entry}
+use Rattle.writes.specs.Moved.{Moved, New}
 use Rattle.slices.specs.Writes.{over, written}
-use Rattle.table.specs.Room.{pointed, packed, joined, Gathered, Roomy}
+use Rattle.writes.specs.Room.{pointed, packed, joined, Gathered, Roomy}
 use Rattle.table.specs.declared.Table.{Table}
 use Rattle.table.proofs.Facts.{all-here, all-more, all-map, all-unmap, total-join}
 use Rattle.slices.proofs.Slices.{length-over}
 use Rattle.table.proofs.Entries.{spell, clauses-spell}
 use Rattle.table.proofs.Rows.{LawfulEntry}
-use Rattle.table.proofs.Moves.{refit, spelled-is, appended, add-moves, learn-moves}
+use Rattle.writes.proofs.Moves.{refit, spelled-is, appended, add-moves, learn-moves}
 
 -- ---- one more row
 

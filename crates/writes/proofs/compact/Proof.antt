@@ -2,10 +2,10 @@
 use mathlib.Core.Path.{_≡_}
 use Prim.Native.Nat.{_-_}
 use native.Mathlib.Omega.{arith}
-use Rattle.table.proofs.Packing.{compact-roomy}
+use Rattle.writes.proofs.Packing.{compact-roomy}
 use borrow.Author.Needs.{needs}
-use Rattle.table.proofs.compact.Statement.{statement}
-use Rattle.table.proofs.compact.Tie as tie
+use Rattle.writes.proofs.compact.Statement.{statement}
+use Rattle.writes.proofs.compact.Tie as tie
 
 slice-aggregate-gather : tie.Need-slice-aggregate-gather
 slice-aggregate-gather c = search needs

@@ -2,8 +2,8 @@
 use mathlib.Core.Path.{refl}
 use native.Mathlib.Omega.{arith}
 use borrow.Author.Needs.{needs}
-use Rattle.table.proofs.make_room.Statement.{statement}
-use Rattle.table.proofs.make_room.Tie as tie
+use Rattle.writes.proofs.make_room.Statement.{statement}
+use Rattle.writes.proofs.make_room.Tie as tie
 
 cast-top : tie.Need-cast-top
 cast-top c = search needs

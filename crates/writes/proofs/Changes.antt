@@ -5,10 +5,10 @@ use Prim.Native.Nat.{ℕ, _<_}
 use lib.IntN.{ℤ}
 use Rattle.rules.specs.Terms.{State, fetch}
 use Rattle.rules.specs.Frames.{ADD, LEARN, FORGET, PROMOTE, DROP, WEAKEN, RESTORE, next}
 use Rattle.table.specs.Facts.{All}
 use Rattle.table.specs.Spelled.{Listed, Entry}
-use Rattle.table.proofs.Entries.{spell, spell-unseen, spell-comes, spell-goes, fetch-here, has-here}
+use Rattle.table.proofs.Entries.{entry-of, spell, spell-unseen, spell-comes, spell-goes, fetch-here, has-here}
 use Rattle.table.proofs.Stacked.{listed-fetch, records-push, records-leave}
 
 -- the state that entries by rising id and the ids of the stack, from the top, spell
 abbrev pub state-of : ℕ → ℕ → ℕ → ℕ → List Entry → List ℕ → State
@@ -21,9 +21,6 @@ state-of vars highest entries words es ids = record {
   learned = spell 1 es;
   stack = map (fetch (spell 2 es)) ids;
 }
-
-abbrev pub entry-of : ℕ → ℕ → List ℤ → List ℤ → Entry
-entry-of p i c w = record { where-is = p; what = record { id = i; lits = c; witness = w } }
 
 module _ (v hi n m : ℕ) (es fs : List Entry) (ids : List ℕ) (i : ℕ) (c : List ℤ) (b : All (λ a. a .what .id < i) es) (a : All (λ a. i < a .what .id) fs) where
   -- the clause as it stands in each place

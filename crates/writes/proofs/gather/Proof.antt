@@ -5,13 +5,13 @@ use Prim.Native.Nat.{_+_, _-_, _≤_}
 use native.Mathlib.Omega.{arith}
 use lib.IntN.{ℤ}
 use lib.ListN.{length, take, drop, length-set}
 use Rattle.table.specs.Spelled.{Row, row-at, start-of, size, part, Inside}
-use Rattle.table.specs.Room.{Gathered}
+use Rattle.writes.specs.Room.{Gathered}
 use Rattle.slices.proofs.Slices.{part-is, length-tail, tail-written, length-written}
-use Rattle.table.proofs.Packing.{length-part, inside-here, room-here, gathered-next}
+use Rattle.writes.proofs.Packing.{length-part, inside-here, room-here, gathered-next}
 use borrow.Author.Needs.{needs}
-use Rattle.table.proofs.gather.Statement.{statement}
-use Rattle.table.proofs.gather.Tie as tie
+use Rattle.writes.proofs.gather.Statement.{statement}
+use Rattle.writes.proofs.gather.Tie as tie
 
 abbrev Inv-loop : tie.InvT-loop
 Inv-loop rows₀ pool buffer₀ count i₀ at₀ rows buffer i at = Gathered rows₀ pool i at rows buffer × (i ≤ count) × (at ≤ length buffer) × (length rows ≡ length rows₀) × (length buffer ≡ length buffer₀)

@@ -1,8 +1,8 @@
 -- `table::remove` meets its contract: the laws of FORGET and DROP.
-use Rattle.table.proofs.Moves.{forget-moves, drop-moves}
+use Rattle.writes.proofs.Moves.{forget-moves, drop-moves}
 use borrow.Author.Needs.{needs}
-use Rattle.table.proofs.remove.Statement.{statement}
-use Rattle.table.proofs.remove.Tie as tie
+use Rattle.writes.proofs.remove.Statement.{statement}
+use Rattle.writes.proofs.remove.Tie as tie
 
 cast-n : tie.Need-cast-n
 cast-n c = search needs
