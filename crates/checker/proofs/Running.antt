@@ -6,8 +6,8 @@ use mathlib.Core.Option.{Option, none, some}
 use Prim.Native.Nat.{ℕ, _≤_}
 use native.Mathlib.Omega.{arith}
 use lib.IntN.{ℤ}
-use lib.ListN.{length, take, drop}
-use lib.Seq.{length-take-le, take-append-le, take-all}
+use lib.ListN.{length, take}
+use lib.Seq.{length-take-le}
 use Rattle.rules.specs.Terms.{State}
 use Rattle.rules.specs.Frames.{Frame, ADD, LEARN, FORGET, PROMOTE, DROP, WEAKEN, RESTORE, SAT, UNSAT, Parsed, malformed, framed, parse}
 use Rattle.rules.specs.Answers.{check, Handed, untouched, Outcome, settled, outcome, outcome-parsed}
@@ -16,17 +16,18 @@ use Rattle.rules.specs.declared.Check.{Check}
 use Rattle.rules.specs.declared.Check.the-variants.{Passed, Failed}
 use Rattle.rules.specs.declared.Fault.the-variants.{NoState}
 use Rattle.slices.specs.Writes.{over}
-use Rattle.slices.proofs.Slices.{length-over}
+use Rattle.slices.proofs.Slices.{take-over, length-over}
 use Rattle.table.specs.Spelled as working
 use Rattle.table.specs.Spelled.{Row, Fit}
 use Rattle.table.specs.declared.Table.{Table}
 use Rattle.lent.specs.State.{is-state, state-of, spelled}
 use Rattle.lent.specs.declared.Carried.{Carried}
 use Rattle.lent.proofs.Stored.{stored-is-state, stored-spells}
-use Rattle.steps.specs.Applied.{unless-refused, writes, Wrote, Steps}
-use Rattle.steps.specs.declared.Stepped.{Stepped}
-use Rattle.steps.specs.declared.Written.{Written}
-use Rattle.steps.specs.declared.Written.the-variants.{Nothing, Tables, Model}
+use Rattle.apply.specs.Applied.{unless-refused, Wrote}
+use Rattle.apply.specs.declared.Stepped.{Stepped}
+use Rattle.apply.specs.declared.Written.{Written}
+use Rattle.apply.specs.declared.Written.the-variants.{Nothing, Tables, Model}
+use Rattle.steps.specs.Steps.{Steps, writes}
 use Rattle.checker.specs.Calls.{judged}
 use Rattle.checker.specs.Running.{Running, left-with, stored-with}
 
@@ -38,10 +39,6 @@ apart-nothing e = let z : _≡_ {A = ℕ} 0 1 = cc in omega arith
 
 apart-model : _≡_ {A = Written} Model Tables → ⊥
 apart-model e = let z : _≡_ {A = ℕ} 0 1 = cc in omega arith
-
--- what goes over the front of a list is its front
-take-over : {A : Type 0} (d s : List A) (n : ℕ) → n ≤ length s → take n (over d (take n s)) ≡ take n s
-take-over d s n h = let l = length-take-le n s h in take-append-le n (take n s) (drop (length (take n s)) d) (omega arith) ∙ take-all n (take n s) (omega arith)
 
 -- ---- the model: it is handed out exactly where it is told so
 

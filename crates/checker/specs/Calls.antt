@@ -16,8 +16,9 @@ use Rattle.rules.specs.declared.Check.{Check}
 use Rattle.rules.specs.declared.Check.the-variants.{Passed, Failed}
 use Rattle.rules.specs.declared.Fault.{Fault}
 use Rattle.rules.specs.declared.Fault.the-variants.{NoState}
-use Rattle.steps.specs.Applied.{unless-refused, writes, Wrote}
-use Rattle.steps.specs.declared.Written.the-variants.{Tables}
+use Rattle.apply.specs.Applied.{unless-refused, Wrote}
+use Rattle.apply.specs.declared.Written.the-variants.{Tables}
+use Rattle.steps.specs.Steps.{writes}
 use Rattle.entries.specs.Lent.{row-of}
 use Rattle.entries.specs.declared.Entry.{Entry}
 use Rattle.lent.specs.State.{spelled}

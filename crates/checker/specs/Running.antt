@@ -15,8 +15,9 @@ use Rattle.rules.specs.declared.Fault.the-variants.{NoState}
 use Rattle.slices.specs.Writes.{over}
 use Rattle.table.specs.Spelled.{Row}
 use Rattle.table.specs.declared.Table.{Table}
-use Rattle.steps.specs.Applied.{unless-refused, writes, Wrote}
-use Rattle.steps.specs.declared.Written.the-variants.{Tables}
+use Rattle.apply.specs.Applied.{unless-refused, Wrote}
+use Rattle.apply.specs.declared.Written.the-variants.{Tables}
+use Rattle.steps.specs.Steps.{writes}
 use Rattle.entries.specs.Lent.{row-of, vacant-rows}
 use Rattle.entries.specs.declared.Entry.{Entry}
 use Rattle.lent.specs.State.{spelled}

@@ -6,11 +6,11 @@ use mathlib.Core.Option.{Option, none, some}
 use Prim.Native.Nat.{ℕ, _≤_}
 use native.Mathlib.Omega.{arith}
 use lib.IntN.{ℤ}
-use lib.ListN.{length, take, drop}
-use lib.Seq.{length-take-le, take-append-le, take-all}
+use lib.ListN.{length, take}
+use lib.Seq.{length-take-le}
 use Rattle.rules.specs.Terms.{State}
 use Rattle.slices.specs.Writes.{over}
-use Rattle.slices.proofs.Slices.{length-over}
+use Rattle.slices.proofs.Slices.{take-over, length-over}
 use Rattle.table.specs.Spelled as working
 use Rattle.table.specs.Spelled.{Row, Fit}
 use Rattle.table.specs.declared.Table.{Table}
@@ -22,10 +22,6 @@ use Rattle.lines.specs.Lent as lines
 use Rattle.lines.specs.declared.Reader.{Reader}
 use Rattle.feed.specs.declared.Fed.{Fed}
 use Rattle.parts.specs.Giving.{RanOn, left-with, stored-with}
-
--- what goes over the front of a list is its front
-take-over : {A : Type 0} (d s : List A) (n : ℕ) → n ≤ length s → take n (over d (take n s)) ≡ take n s
-take-over d s n h = let l = length-take-le n s h in take-append-le n (take n s) (drop (length (take n s)) d) (omega arith) ∙ take-all n (take n s) (omega arith)
 
 module _ (rows : List Row) (pool : List ℤ) (c : Carried) (r : Reader) (frame : List ℤ) (part out : List ℕ) where
   pub unloaded : is-state c rows pool ≡ false → {rows′ : List Row} → length rows′ ≡ length rows → RanOn rows pool c r frame part out (left-with c r) rows′ pool frame out

@@ -97,25 +97,13 @@ fn run(
     stored(fed, stack)
 }
 
-// The rows over the first ones of a table.
-fn write_rows(table: &mut [[u32; 5]], rows: &[[u32; 5]])
-    requires { ⌜ length (now rows) ≤ length (now table) ⌝ }
-    ensures { λ _. ⌜ now (table .exit) ≡ over (now (table .entry)) (now (rows .entry)) ⌝ }
-{
-    let mut i = 0;
-    while i < rows.len() {
-        table[i] = rows[i];
-        i += 1;
-    }
-}
-
 // The rows of a table, apart from it.
 fn copied(rows: &[[u32; 5]]) -> [[u32; 5]; 1024]
     requires { ⌜ length (now rows) ≤ 1024 ⌝ }
     ensures { λ r. ⌜ r ≡ over vacant-rows (now (rows .entry)) ⌝ }
 {
     let mut own = [[0u32; 5]; 1024];
-    write_rows(&mut own, rows);
+    slices::write_rows(&mut own, rows);
     own
 }
 
@@ -136,7 +124,7 @@ fn run_apart(
     let mut own = copied(rows);
     let ran = run(&mut own[..n], pool, c, r, frame, part, out);
     let count = ran.count;
-    write_rows(rows, &own[..count]);
+    slices::write_rows(rows, &own[..count]);
     let given = ran.given;
     given
 }

@@ -7,7 +7,7 @@ use native.Mathlib.Nat.{sub-self, add-sub-of-le, add-sub-cancel-left, eq-or-lt-o
 use native.Mathlib.Numerals.{add-one}
 use native.Mathlib.Omega.{arith}
 use lib.ListN.{length, getD, set, take, drop, length-append, length-drop, take-append-drop}
-use lib.Seq.{length-take-le, take-nil, take-all, take-length, take-append-seam, drop-length, take-suc, drop-cons, take-at, drop-at, set-at, append-snoc, getD-append-add, getD-drop, take-take, drop-drop, take-suc-set, take-set-lt, set-split}
+use lib.Seq.{length-take-le, take-nil, take-all, take-length, take-append-le, take-append-seam, drop-length, take-suc, drop-cons, take-at, drop-at, set-at, append-snoc, getD-append-add, getD-drop, take-take, drop-drop, take-suc-set, take-set-lt, set-split}
 use borrow.Rule.Slice.PartMut.{midOf, postOf, putMid}
 use Rattle.slices.specs.Writes.{over, written, closed, Among}
 
@@ -63,6 +63,10 @@ module _ {A : Type 0} where
 
   pub over-last : (d s : List A) (j : ℕ) → j ≡ length s → take j s ++ drop j d ≡ over d s
   over-last d s j e = rw (e, take-length s)
+
+  -- what goes over the front of a list is its front
+  pub take-over : (d s : List A) (n : ℕ) → n ≤ length s → take n (over d (take n s)) ≡ take n s
+  take-over d s n h = let l = length-take-le n s h in take-append-le n (take n s) (drop (length (take n s)) d) (omega arith) ∙ take-all n (take n s) (omega arith)
 
   pub length-over : (d s : List A) → length s ≤ length d → length (over d s) ≡ length d
   length-over d s h = omega (arith, length-append s (drop (length s) d), length-drop (length s) d)

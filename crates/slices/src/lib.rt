@@ -26,6 +26,18 @@ pub fn write_both(pool: &mut [i32], at: usize, lits: &[i32], witness: &[i32])
     write_literals(&mut pool[end..], witness);
 }
 
+// The rows over the first ones of a table.
+pub fn write_rows(table: &mut [[u32; 5]], rows: &[[u32; 5]])
+    requires { ⌜ length (now rows) ≤ length (now table) ⌝ }
+    ensures { λ _. ⌜ now (table .exit) ≡ over (now (table .entry)) (now (rows .entry)) ⌝ }
+{
+    let mut k = 0;
+    while k < rows.len() {
+        table[k] = rows[k];
+        k += 1;
+    }
+}
+
 // Of the first n rows, those behind `at` move one place down.
 pub fn close_rows(rows: &mut [[u32; 5]], n: usize, at: usize)
     requires { ⌜ (n ≤ length (now rows)) × (at < n) ⌝ }

@@ -9,18 +9,17 @@ use lib.Seq.{take-all}
 use Rattle.rules.specs.Terms.{State}
 use Rattle.rules.specs.Frames.{Frame, malformed, framed, parse, next}
 use Rattle.rules.specs.Answers.{check, untouched, hands, settled, outcome}
-use Rattle.rules.specs.declared.Fault.{Fault}
 use Rattle.rules.specs.declared.Fault.the-variants.{Malformed}
 use Rattle.rules.specs.declared.Check.{Check}
 use Rattle.rules.specs.declared.Check.the-variants.{Passed, Failed}
 use Rattle.rules.specs.declared.Answer.{Answer}
-use Rattle.rules.specs.declared.Answer.the-variants.{Accepted, Refused}
 use Rattle.table.specs.Spelled.{Row, spelled, Fit}
 use Rattle.table.specs.declared.Table.{Table}
-use Rattle.steps.specs.Applied.{answer-of, refused-with, unless-refused, answered-with, Same, Applied, Answered, Steps, writes}
-use Rattle.steps.specs.declared.Stepped.{Stepped}
-use Rattle.steps.specs.declared.Written.{Written}
-use Rattle.steps.specs.declared.Written.the-variants.{Nothing, Tables}
+use Rattle.apply.specs.Applied.{answer-of, refused-with, unless-refused, answered-with, Same, Applied, Answered}
+use Rattle.apply.specs.declared.Stepped.{Stepped}
+use Rattle.apply.specs.declared.Written.{Written}
+use Rattle.apply.specs.declared.Written.the-variants.{Tables}
+use Rattle.steps.specs.Steps.{Steps, writes}
 
 -- ---- the frame's lists, as slices of its words
 

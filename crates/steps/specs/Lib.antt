@@ -1,2 +1,2 @@
--- What a frame's application promises.
-pub mod Applied
+-- What a frame of any words comes to.
+pub mod Steps

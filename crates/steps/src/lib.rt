@@ -1,229 +1,12 @@
-// One frame: judged by &, and applied by &mut only after its acceptance.
-ghost use mathlib.Core.Path.{_≡_};
-ghost use Prim.Native.Nat.{_+_, _≤_};
-ghost use lib.ListN.{length};
-ghost use Rattle.rules.specs.Frames.{ADD, LEARN, FORGET, PROMOTE, DROP, WEAKEN, RESTORE, SAT, UNSAT};
-ghost use Rattle.rules.specs.Answers.{check};
-ghost use Rattle.table.specs.Spelled.{Fit, spelled};
-ghost use Rattle.steps.specs.Applied.{Answered, Applied, Steps, accepted-with, answer-of, answered-with, refused-with};
+// The dispatcher: one frame of any words, by the head that it has.
+ghost use Rattle.table.specs.Spelled.{Fit};
+ghost use Rattle.steps.specs.Steps.{Steps};
+use apply::Stepped;
+use apply::Written;
 use frame::Head;
-use judge::Judged;
-use rules::Answer;
-use rules::Check;
 use rules::Fault;
 use table::Table;
 
-// What a frame wrote: an accepted SAT the model buffer, an accepted change the tables, everything else nothing.
-pub enum Written {
-    Nothing,
-    Tables,
-    Model,
-}
-
-// The answer, the numbers beside the tables after it, and what was written.
-pub struct Stepped {
-    pub answer: Answer,
-    pub table: Table,
-    pub written: Written,
-}
-
-fn refused(fault: Fault, table: Table) -> Stepped
-    ensures { λ r. ⌜ r ≡ refused-with fault table ⌝ }
-{
-    Stepped {
-        answer: Answer::Refused(fault),
-        table,
-        written: Written::Nothing,
-    }
-}
-
-fn accepted(table: Table) -> Stepped
-    ensures { λ r. ⌜ r ≡ accepted-with table ⌝ }
-{
-    Stepped {
-        answer: Answer::Accepted(0),
-        table,
-        written: Written::Tables,
-    }
-}
-
-// An answer to SAT or UNSAT; `written` is what an accepted one wrote.
-fn answered(answer: Answer, written: Written, table: Table) -> Stepped
-    ensures { λ r. ⌜ r ≡ answered-with answer written table ⌝ }
-{
-    match answer {
-        Answer::Accepted(_) => Stepped {
-            answer,
-            table,
-            written,
-        },
-        Answer::Refused(_) => Stepped {
-            answer,
-            table,
-            written: Written::Nothing,
-        },
-    }
-}
-
-// ---- the operations that write: judge, then apply
-
-fn add(
-    rows: &mut [[u32; 5]],
-    pool: &mut [i32],
-    stack: &[u32],
-    t: Table,
-    id: u32,
-    c: &[i32],
-) -> Stepped
-    requires { ⌜ Fit t (now rows) (now pool) (now stack) × (length (now c) ≤ 256) × (id ≤ 2147483647) ⌝ }
-    ensures { λ r. ⌜ Applied t (now (rows .entry)) (now (pool .entry)) (now (stack .entry)) (ADD id (now (c .entry))) r (now (rows .exit)) (now (pool .exit)) (now (stack .entry)) ⌝ }
-{
-    let check = judge::judge_add(rows, pool, stack, t, id, c);
-    if let Check::Failed(fault) = check {
-        return refused(fault, t);
-    }
-    accepted(table::append(rows, pool, t, 0, id, c))
-}
-
-fn learn(
-    rows: &mut [[u32; 5]],
-    pool: &mut [i32],
-    stack: &[u32],
-    t: Table,
-    id: u32,
-    c: &[i32],
-    hints: &[i32],
-) -> Stepped
-    requires { ⌜ Fit t (now rows) (now pool) (now stack) × (length (now c) ≤ 256) × (length (now hints) ≤ 4096) × (id ≤ 2147483647) ⌝ }
-    ensures { λ r. ⌜ Applied t (now (rows .entry)) (now (pool .entry)) (now (stack .entry)) (LEARN id (now (c .entry)) (now (hints .entry))) r (now (rows .exit)) (now (pool .exit)) (now (stack .entry)) ⌝ }
-{
-    let check = judge::judge_learn(rows, pool, stack, t, id, c, hints);
-    if let Check::Failed(fault) = check {
-        return refused(fault, t);
-    }
-    accepted(table::append(rows, pool, t, 1, id, c))
-}
-
-fn forget(rows: &mut [[u32; 5]], pool: &[i32], stack: &[u32], t: Table, id: u32) -> Stepped
-    requires { ⌜ Fit t (now rows) (now pool) (now stack) ⌝ }
-    ensures { λ r. ⌜ Applied t (now (rows .entry)) (now (pool .entry)) (now (stack .entry)) (FORGET id) r (now (rows .exit)) (now (pool .entry)) (now (stack .entry)) ⌝ }
-{
-    let judged = judge::judge_learned(rows, pool, stack, t, id);
-    match judged {
-        Judged::Refused(fault) => refused(fault, t),
-        Judged::Accepted(k) => accepted(table::remove(rows, t, k)),
-    }
-}
-
-fn promote(rows: &mut [[u32; 5]], pool: &[i32], stack: &[u32], t: Table, id: u32) -> Stepped
-    requires { ⌜ Fit t (now rows) (now pool) (now stack) ⌝ }
-    ensures { λ r. ⌜ Applied t (now (rows .entry)) (now (pool .entry)) (now (stack .entry)) (PROMOTE id) r (now (rows .exit)) (now (pool .entry)) (now (stack .entry)) ⌝ }
-{
-    let judged = judge::judge_learned(rows, pool, stack, t, id);
-    match judged {
-        Judged::Refused(fault) => refused(fault, t),
-        Judged::Accepted(k) => accepted(table::promote(rows, t, k)),
-    }
-}
-
-fn drop_clause(
-    rows: &mut [[u32; 5]],
-    pool: &[i32],
-    stack: &[u32],
-    t: Table,
-    id: u32,
-    hints: &[i32],
-) -> Stepped
-    requires { ⌜ Fit t (now rows) (now pool) (now stack) × (length (now hints) ≤ 4096) ⌝ }
-    ensures { λ r. ⌜ Applied t (now (rows .entry)) (now (pool .entry)) (now (stack .entry)) (DROP id (now (hints .entry))) r (now (rows .exit)) (now (pool .entry)) (now (stack .entry)) ⌝ }
-{
-    let judged = judge::judge_drop(rows, pool, stack, t, id, hints);
-    match judged {
-        Judged::Refused(fault) => refused(fault, t),
-        Judged::Accepted(k) => accepted(table::remove(rows, t, k)),
-    }
-}
-
-fn weaken(
-    rows: &mut [[u32; 5]],
-    pool: &mut [i32],
-    stack: &mut [u32],
-    t: Table,
-    id: u32,
-    w: &[i32],
-    ws: &[i32],
-) -> Stepped
-    requires { ⌜ Fit t (now rows) (now pool) (now stack) × (length (now w) ≤ 256) × (3 + length (now w) + length (now ws) ≤ 4096) ⌝ }
-    ensures { λ r. ⌜ Applied t (now (rows .entry)) (now (pool .entry)) (now (stack .entry)) (WEAKEN id (now (w .entry)) (now (ws .entry))) r (now (rows .exit)) (now (pool .exit)) (now (stack .exit)) ⌝ }
-{
-    let judged = groups::judge_weaken(rows, pool, stack, t, id, w, ws);
-    match judged {
-        Judged::Refused(fault) => refused(fault, t),
-        Judged::Accepted(k) => accepted(table::weaken(rows, pool, stack, t, k, w)),
-    }
-}
-
-fn restore(rows: &mut [[u32; 5]], pool: &[i32], stack: &mut [u32], t: Table, id: u32) -> Stepped
-    requires { ⌜ Fit t (now rows) (now pool) (now stack) ⌝ }
-    ensures { λ r. ⌜ Applied t (now (rows .entry)) (now (pool .entry)) (now (stack .entry)) (RESTORE id) r (now (rows .exit)) (now (pool .entry)) (now (stack .exit)) ⌝ }
-{
-    let judged = judge::judge_restore(rows, pool, stack, t, id);
-    match judged {
-        Judged::Refused(fault) => refused(fault, t),
-        Judged::Accepted(k) => accepted(table::restore(rows, stack, t, k)),
-    }
-}
-
-// ---- the answers, which write no table
-
-// SAT: the offered assignment is mended by the walk down the stack; only an accepted one writes the model.
-fn sat(
-    rows: &[[u32; 5]],
-    pool: &[i32],
-    stack: &[u32],
-    t: Table,
-    assumed: &[i32],
-    vs: &[i32],
-    model: &mut [u64; 32],
-) -> Answer
-    requires { ⌜ Fit t (now rows) (now pool) (now stack) × (length (now assumed) ≤ 256) × (length (now vs) ≤ 4096) ⌝ }
-    ensures { λ r. ⌜ Answered t (now (rows .entry)) (now (pool .entry)) (now (stack .entry)) (SAT (now (assumed .entry)) (now (vs .entry))) r (now (model .entry)) (now (model .exit)) ⌝ }
-{
-    let offer = judge::judge_sat(rows, pool, stack, t, assumed, vs);
-    let check = offer.check;
-    if let Check::Failed(fault) = check {
-        return Answer::Refused(fault);
-    }
-    let offered = offer.offered;
-    let n = t.count as usize;
-    let depth = t.depth as usize;
-    let mended = walk::mend(&rows[..n], pool, &stack[..depth], offered);
-    let changed = words::changed(&offered, &mended);
-    *model = mended;
-    Answer::Accepted(changed)
-}
-
-fn unsat(
-    rows: &[[u32; 5]],
-    pool: &[i32],
-    stack: &[u32],
-    t: Table,
-    assumed: &[i32],
-    hints: &[i32],
-) -> Answer
-    requires { ⌜ Fit t (now rows) (now pool) (now stack) × (length (now assumed) ≤ 256) × (length (now hints) ≤ 4096) ⌝ }
-    ensures { λ r. ⌜ r ≡ answer-of (check (spelled t (now (rows .entry)) (now (pool .entry)) (now (stack .entry))) (UNSAT (now (assumed .entry)) (now (hints .entry)))) ⌝ }
-{
-    let check = judge::judge_unsat(rows, pool, stack, t, assumed, hints);
-    if let Check::Failed(fault) = check {
-        return Answer::Refused(fault);
-    }
-    Answer::Accepted(0)
-}
-
-// ---- the dispatcher
-
-// One frame of any words, by the head that it has.
 pub fn step(
     rows: &mut [[u32; 5]],
     pool: &mut [i32],
@@ -237,29 +20,29 @@ pub fn step(
 {
     let head = frame::parse(frame);
     match head {
-        Head::Malformed => refused(Fault::Malformed, t),
-        Head::Add(id) => add(rows, pool, stack, t, id, &frame[2..]),
+        Head::Malformed => apply::refused(Fault::Malformed, t),
+        Head::Add(id) => apply::add(rows, pool, stack, t, id, &frame[2..]),
         Head::Learn(id, n) => {
             let end = 3 + n;
-            learn(rows, pool, stack, t, id, &frame[3..end], &frame[end..])
+            apply::learn(rows, pool, stack, t, id, &frame[3..end], &frame[end..])
         }
-        Head::Forget(id) => forget(rows, pool, stack, t, id),
-        Head::Promote(id) => promote(rows, pool, stack, t, id),
-        Head::Drop(id) => drop_clause(rows, pool, stack, t, id, &frame[2..]),
+        Head::Forget(id) => apply::forget(rows, pool, stack, t, id),
+        Head::Promote(id) => apply::promote(rows, pool, stack, t, id),
+        Head::Drop(id) => apply::drop_clause(rows, pool, stack, t, id, &frame[2..]),
         Head::Weaken(id, n) => {
             let end = 3 + n;
-            weaken(rows, pool, stack, t, id, &frame[3..end], &frame[end..])
+            apply::weaken(rows, pool, stack, t, id, &frame[3..end], &frame[end..])
         }
-        Head::Restore(id) => restore(rows, pool, stack, t, id),
+        Head::Restore(id) => apply::restore(rows, pool, stack, t, id),
         Head::Sat(n) => {
             let end = 2 + n;
-            let answer = sat(rows, pool, stack, t, &frame[2..end], &frame[end..], model);
-            answered(answer, Written::Model, t)
+            let answer = apply::sat(rows, pool, stack, t, &frame[2..end], &frame[end..], model);
+            apply::answered(answer, Written::Model, t)
         }
         Head::Unsat(n) => {
             let end = 2 + n;
-            let answer = unsat(rows, pool, stack, t, &frame[2..end], &frame[end..]);
-            answered(answer, Written::Nothing, t)
+            let answer = apply::unsat(rows, pool, stack, t, &frame[2..end], &frame[end..]);
+            apply::answered(answer, Written::Nothing, t)
         }
     }
 }

@@ -15,6 +15,9 @@ use Rattle.rules.proofs.Lists.{by-cases}
 use Rattle.table.specs.Facts.{All, both}
 use Rattle.table.specs.Spelled.{Row, stands, Entry, entry, clauses}
 
+abbrev pub entry-of : ℕ → ℕ → List ℤ → List ℤ → Entry
+entry-of p i c w = record { where-is = p; what = record { id = i; lits = c; witness = w } }
+
 -- the clauses of the place p
 unfoldable pub spell : ℕ → List Entry → List Held
 spell p [] = []

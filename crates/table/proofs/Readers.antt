@@ -1,5 +1,5 @@
 -- What readers may lean on: the counts, what was found at a row, and that clauses and witnesses obey Terms.
-use mathlib.Core.Path.{_≡_, refl, sym, _∙_, ap}
+use mathlib.Core.Path.{_≡_, refl, sym, _∙_, ap, subst}
 use mathlib.Core.Bool.{true, false, cond}
 use mathlib.Core.List.{List, [], _∷_, _++_, map, reverse, reverse-append}
 use Prim.Native.Nat.{ℕ, zero, suc, _+_, _<_, _≤_}
@@ -16,6 +16,8 @@ use Rattle.rules.specs.Answers.{need, free-entry, free-words}
 use Rattle.rules.specs.declared.Fault.the-variants.{NoEntry, NoWords}
 use Rattle.rules.proofs.Lists.{and-left, and-right, all-at, all-of}
 use Rattle.rules.proofs.Places.{words-of, length-without, room-append}
+use Rattle.slices.specs.Writes.{Among}
+use Rattle.slices.proofs.Slices.{in-reverse, among-of}
 use Rattle.table.specs.Facts.{All, none, both, total}
 use Rattle.table.specs.Spelled.{Row, row-at, id-of, place-of, size, held, stands, clauses, held-rows, from-top, spelled, Inside, Fit, Readable, Located}
 use Rattle.table.specs.declared.Table.{Table}
@@ -23,7 +25,7 @@ use Rattle.table.specs.declared.Found.the-variants.{Nothing}
 use Rattle.table.proofs.Facts.{all-index, all-unreverse, all-more}
 use Rattle.table.proofs.Places.{length-settled, room-settled}
 use Rattle.table.proofs.Finding as finding
-use Rattle.table.proofs.Stacked.{listed-has, listed-fetch}
+use Rattle.table.proofs.Stacked.{listed-has, listed-in, listed-fetch}
 use Rattle.table.proofs.Rows.{clause-length, witness-length, lawful-placed, lawful-clause, lawful-witness, clause-short}
 
 -- ---- each row stands in one of the three places: a number of each, summed over the places, is summed over the rows
@@ -172,9 +174,24 @@ module _ {t : Table} {rows : List Row} {pool : List ℤ} {stack : List ℕ} (f :
     pub stack-fetch-at : place-of r ≡ 2 → fetch (s .stack) (id-of r) ≡ held pool r
     stack-fetch-at q = listed-fetch (f .core .listed) (id-of r) (has-at 2 ∙ eq-eqb (place-of r) 2 q) ∙ fetch-at 2 q
 
+    stacked-row : place-of r ≡ 2 → Among stack (t .depth) (id-of r)
+    stacked-row q = among-of (t .depth) stack (in-reverse _ (listed-in (f .core .listed) (id-of r) (has-at 2 ∙ eq-eqb (place-of r) 2 q)))
+
     -- where a clause is not stacked, the stack is not full
     pub depth-below : place-of r ≡ 0 → t .depth < t .count
     depth-below q = omega (arith, length-without (id-of r) (clauses 0 pool rs) (has-at 0 ∙ eq-eqb (place-of r) 0 q), depth-is, depth-held, count-places)
+
+  -- ---- the same of a row held among all rows lent
+
+  module _ (at : ℕ) (h : at < t .count) where
+    held-at : at < length rs
+    held-at = omega (arith, count-rows)
+
+    pub row-inside : Inside (length pool) (row-at rows at)
+    row-inside = subst (Inside (length pool)) (row-same at h) (readable .inside at held-at)
+
+    pub row-stacked : place-of (row-at rows at) ≡ 2 → Among stack (t .depth) (id-of (row-at rows at))
+    row-stacked = subst (λ x. place-of x ≡ 2 → Among stack (t .depth) (id-of x)) (row-same at h) (stacked-row at held-at)
 
   -- ---- the stack
 

@@ -17,8 +17,7 @@ use Rattle.table.specs.Facts.{All}
 use Rattle.table.specs.Spelled.{Row, id-of, place-of, start-of, length-of, witness-of, size, part, clause-part, witness-part, held, stands, Known, Inside, Clear, Lawful, Listed, Core, Entry, entry}
 use Rattle.table.proofs.Facts.{all-here, all-left, all-right, all-join, all-cut, all-put, all-more, all-map, all-unmap, map-same, pairs-before, pairs-after, pairs-cut, pairs-put, total-cut}
 use Rattle.slices.proofs.Slices.{part-same}
-use Rattle.table.proofs.Entries.{spell, clauses-spell, spell-unseen}
-use Rattle.table.proofs.Changes.{entry-of}
+use Rattle.table.proofs.Entries.{entry-of, spell, clauses-spell, spell-unseen}
 
 -- ---- a part that lies inside the pool is as long as its row says
 

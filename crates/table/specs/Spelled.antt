@@ -10,7 +10,7 @@ use lib.IntN.{ℤ}
 use lib.ListN.{length, getD, take, drop}
 use Rattle.rules.specs.Lists.{all, only}
 use Rattle.rules.specs.Terms.{in-range, is-clause, is-witness, Held, State, has, fetch}
-use Rattle.rules.specs.Frames.{Frame, next, place}
+use Rattle.rules.specs.Frames.{place}
 use Rattle.table.specs.Facts.{All, Pairs, total}
 use Rattle.table.specs.declared.Table.{Table}
 use Rattle.table.specs.declared.Found.{Found}
@@ -148,15 +148,6 @@ pub record Fit (t : Table) (rows : List Row) (pool : List ℤ) (stack : List ℕ
   pub stack-fit : t .depth ≤ length stack
   pub core : Core (t .vars) (t .highest) (t .top) (t .words) (held-rows t rows) pool (from-top t stack)
 
--- with some stack: for writers that do not touch it
-abbrev pub Fits : Table → List Row → List ℤ → Type 0
-Fits t rows pool = (stack : List ℕ) × Fit t rows pool stack
-
--- an accepted frame: the tables after it fit, and spell what the paper says
-pub record Moved (t : Table) (rows : List Row) (pool : List ℤ) (stack : List ℕ) (t′ : Table) (rows′ : List Row) (pool′ : List ℤ) (stack′ : List ℕ) (f : Frame) : Type 0 where
-  pub fit : Fit t′ rows′ pool′ stack′
-  pub state : spelled t′ rows′ pool′ stack′ ≡ next (spelled t rows pool stack) f
-
 -- ---- readers
 
 -- what they may lean on, of the rows held and the pool: Fit has it
@@ -177,20 +168,3 @@ Below rows i k = (k ≤ length rows) × ((j : ℕ) → j < k → id-of (row-at r
 abbrev pub Located : List Row → ℕ → Found → Type 0
 Located rows i (At k) = (k < length rows) × (id-of (row-at rows k) ≡ i)
 Located rows i Nothing = (k : ℕ) → k < length rows → id-of (row-at rows k) ≡ i → ⊥
-
--- ---- writers
-
--- `at` is a row held; the numbers that the code leans on
-abbrev pub RowHeld : Table → List Row → ℕ → Type 0
-RowHeld t rows at = (at < t .count) × (t .count ≤ length rows) × (size (row-at rows at) ≤ t .words)
-
--- "an id, 1 to 2,147,483,647. A new id must be greater than every id accepted before"
-abbrev pub New : Table → ℕ → Type 0
-New t i = (t .highest < i) × (i ≤ 2147483647)
-
--- what WEAKEN has been judged by: the row is irredundant, the witness is one, and there is room for it
-pub record Weakenable (t : Table) (rows : List Row) (pool : List ℤ) (at : ℕ) (witness : List ℤ) : Type 0 where
-  pub within : at < t .count
-  pub irredundant : place-of (row-at rows at) ≡ 0
-  pub witnessed : is-witness (t .vars) (clause-part pool (row-at rows at)) witness ≡ true
-  pub room : t .words + length witness ≤ length pool

@@ -20,8 +20,7 @@ use Rattle.rules.proofs.Lists.{not-true, not-false}
 use Rattle.clause.proofs.Faults.{flaw-in}
 use Rattle.table.specs.Spelled.{spelled}
 use Rattle.table.specs.declared.Found.{Found}
-use Rattle.table.proofs.Moves.{row-inside}
-use Rattle.table.proofs.Readers.{readable, count-rows, free-words-is}
+use Rattle.table.proofs.Readers.{readable, count-rows, row-inside, free-words-is}
 use Rattle.judge.specs.Judged.{Located-in, RowOf}
 use Rattle.judge.proofs.Located.{below-rows, ranged, has-it, fetches-it}
 use Rattle.judge.proofs.Order.{goes-on, stops, met, unmet}

@@ -10,8 +10,7 @@ use Rattle.rules.specs.Answers.{cleanly, check-restore}
 use Rattle.slices.specs.Writes.{Among}
 use Rattle.table.specs.Spelled.{clauses, held-rows, spelled}
 use Rattle.table.specs.declared.Found.{Found}
-use Rattle.table.proofs.Moves.{row-inside, row-stacked}
-use Rattle.table.proofs.Readers.{readable, count-rows}
+use Rattle.table.proofs.Readers.{readable, count-rows, row-inside, row-stacked}
 use Rattle.table.proofs.Stacked.{listed-has, listed-fetch}
 use Rattle.judge.specs.Judged.{Located-in, RowOf}
 use Rattle.judge.proofs.Located.{below-rows, ranged, has-it, fetches-it}

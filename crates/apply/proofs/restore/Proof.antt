@@ -1,0 +1,98 @@
+use mathlib.Core.Path.{_≡_}
+use Prim.Native.Nat.{ℕ}
+use Rattle.rules.specs.Frames.{Frame, RESTORE}
+use Rattle.rules.specs.Answers.{check}
+use Rattle.rules.specs.declared.Check.the-variants.{Passed}
+use Rattle.table.specs.Spelled.{Fit, spelled}
+use Rattle.judge.specs.Judged.{RowOf, Judges}
+use Rattle.table.proofs.Readers.{row-stacked}
+use Rattle.writes.proofs.Moves.{row-held}
+use Rattle.apply.proofs.Passing.{refused, accepted, refusal, at-row, of-id}
+use borrow.Author.Needs.{needs}
+use Rattle.apply.proofs.restore.Statement.{statement}
+use Rattle.apply.proofs.restore.Tie as tie
+
+-- what was judged
+module _ (x : tie.After-judge-restore) where
+  abbrev s : tie.Start
+  s = x .before .before .before .before
+
+  abbrev frame : Frame
+  frame = RESTORE (s .args .id)
+
+  fit : Fit (s .args .t) (s .args .rows .now) (s .args .pool .now) (s .args .stack .now)
+  fit = s .pre
+
+  judged : Judges (s .args .t) (s .args .rows .now) 2 (s .args .id) (check (spelled (s .args .t) (s .args .rows .now) (s .args .pool .now) (s .args .stack .now)) frame) (x .judge-restore .result)
+  unfolding check
+  judged = x .judge-restore .ensures
+
+-- it was accepted, at this row
+module _ (x : tie.After-known-told2) where
+  abbrev j : tie.After-judge-restore
+  j = x .before .before .before
+
+  abbrev k : ℕ
+  k = x .before .judged2 .given .0 .0
+
+  accepted-at : (check (spelled (s j .args .t) (s j .args .rows .now) (s j .args .pool .now) (s j .args .stack .now)) (frame j) ≡ Passed) × RowOf (s j .args .t) (s j .args .rows .now) 2 (s j .args .id) k
+  accepted-at = at-row (s j .args .t) (s j .args .rows .now) 2 (s j .args .id) _ _ (judged j) k (x .before .judged2 .given .1)
+
+  passed : check (spelled (s j .args .t) (s j .args .rows .now) (s j .args .pool .now) (s j .args .stack .now)) (frame j) ≡ Passed
+  passed = accepted-at .0
+
+  row : RowOf (s j .args .t) (s j .args .rows .now) 2 (s j .args .id) k
+  row = accepted-at .1
+
+judge-restore-requires : tie.Need-judge-restore-requires
+judge-restore-requires c κs = search needs
+
+enum-known-judged : tie.Need-enum-known-judged
+enum-known-judged c = search needs
+
+refused-requires : tie.Need-refused-requires
+refused-requires c κs = search needs
+
+enum-known-judged-2 : tie.Need-enum-known-judged-2
+enum-known-judged-2 c = search needs
+
+restore-requires : tie.Need-restore-requires
+restore-requires c κs = let x = c .before .before in (row-held (fit (j x)) _ (row x .below), fit (j x) .stack-fit, row-stacked (fit (j x)) _ (row x .below) (row x .placed))
+
+accepted-requires : tie.Need-accepted-requires
+accepted-requires c κs = search needs
+
+same-length : tie.Need-same-length
+same-length c = search needs
+
+same-length-2 : tie.Need-same-length-2
+same-length-2 c = search needs
+
+returns : tie.Need-returns
+returns c = let x = c .before .before .before .before in rw (c .refused .ensures) (refused (frame x) _ (refusal (s x .args .t) (s x .args .rows .now) 2 (s x .args .id) _ _ (judged x) _ (c .before .before .judged .given .1)))
+
+same-length-3 : tie.Need-same-length-3
+same-length-3 c = search needs
+
+same-length-4 : tie.Need-same-length-4
+same-length-4 c = search needs
+
+returns-2 : tie.Need-returns-2
+returns-2 c = let x = c .before .before .before .before .before .before .before in rw (c .accepted .ensures) (accepted (frame (j x)) (passed x) (of-id RESTORE (row x) (c .before .before .before .before .restore .ensures (row x .placed) (s (j x) .args .pool .now) (fit (j x)))))
+
+pub restore-spec : {M : Type 1} → statement M
+restore-spec =
+    tie.close
+    (tie.spec
+    judge-restore-requires
+    enum-known-judged
+    refused-requires
+    enum-known-judged-2
+    restore-requires
+    accepted-requires
+    same-length
+    same-length-2
+    returns
+    same-length-3
+    same-length-4
+    returns-2)

@@ -1,0 +1,60 @@
+-- An operation, judged and applied: the paper's answer; where it passes, the tables spell the paper's next state; where it does not, they are as they were.
+use mathlib.Core.Path.{_≡_}
+use mathlib.Core.List.{List}
+use Prim.Native.Nat.{ℕ}
+use lib.IntN.{ℤ}
+use Rattle.rules.specs.Frames.{Frame}
+use Rattle.rules.specs.Answers.{check, Handed, untouched, mended, settled}
+use Rattle.rules.specs.declared.Fault.{Fault}
+use Rattle.rules.specs.declared.Check.{Check}
+use Rattle.rules.specs.declared.Check.the-variants.{Passed, Failed}
+use Rattle.rules.specs.declared.Answer.{Answer}
+use Rattle.rules.specs.declared.Answer.the-variants.{Accepted, Refused}
+use Rattle.words.specs.Words.{assigned}
+use Rattle.table.specs.Spelled.{Row, spelled}
+use Rattle.writes.specs.Moved.{Moved}
+use Rattle.table.specs.declared.Table.{Table}
+use Rattle.apply.specs.declared.Stepped.{Stepped}
+use Rattle.apply.specs.declared.Written.{Written}
+use Rattle.apply.specs.declared.Written.the-variants.{Nothing, Tables}
+
+-- the answer to a frame that hands out no model
+abbrev pub answer-of : Check → Answer
+answer-of Passed = Accepted 0
+answer-of (Failed e) = Refused e
+
+abbrev pub refused-with : Fault → Table → Stepped
+refused-with e t = record { answer = Refused e; table = t; written = Nothing }
+
+abbrev pub accepted-with : Table → Stepped
+accepted-with t = record { answer = Accepted 0; table = t; written = Tables }
+
+-- what was written, by what an accepted one writes
+abbrev pub unless-refused : Written → Answer → Written
+unless-refused w (Accepted n) = w
+unless-refused w (Refused e) = Nothing
+
+abbrev pub answered-with : Answer → Written → Table → Stepped
+answered-with a w t = record { answer = a; table = t; written = unless-refused w a }
+
+pub record Same (t : Table) (rows : List Row) (pool : List ℤ) (stack : List ℕ) (t′ : Table) (rows′ : List Row) (pool′ : List ℤ) (stack′ : List ℕ) : Type 0 where
+  pub table : t′ ≡ t
+  pub same-rows : rows′ ≡ rows
+  pub same-pool : pool′ ≡ pool
+  pub same-stack : stack′ ≡ stack
+
+pub record Applied (t : Table) (rows : List Row) (pool : List ℤ) (stack : List ℕ) (f : Frame) (r : Stepped) (rows′ : List Row) (pool′ : List ℤ) (stack′ : List ℕ) : Type 0 where
+  pub answered : r .answer ≡ answer-of (check (spelled t rows pool stack) f)
+  pub moved : check (spelled t rows pool stack) f ≡ Passed → Moved t rows pool stack (r .table) rows′ pool′ stack′ f
+  pub left : (e : Fault) → check (spelled t rows pool stack) f ≡ Failed e → Same t rows pool stack (r .table) rows′ pool′ stack′
+  pub told : r .written ≡ unless-refused Tables (r .answer)
+
+-- the model buffer, of 32 words: the mended assignment's after an accepted SAT, else as it was
+abbrev pub Wrote : Handed → List ℕ → List ℕ → Type 0
+Wrote untouched model model′ = model′ ≡ model
+Wrote (mended α β) model model′ = assigned model′ ≡ β
+
+-- an answer that writes no table
+pub record Answered (t : Table) (rows : List Row) (pool : List ℤ) (stack : List ℕ) (f : Frame) (r : Answer) (model model′ : List ℕ) : Type 0 where
+  pub answered : r ≡ settled (spelled t rows pool stack) f (check (spelled t rows pool stack) f) .answer
+  pub handed : Wrote (settled (spelled t rows pool stack) f (check (spelled t rows pool stack) f) .handed) model model′

@@ -1,0 +1,2 @@
+-- What an operation's application promises.
+pub mod Applied

@@ -1,0 +1,221 @@
+// One operation: judged by &, and applied by &mut only after its acceptance.
+ghost use mathlib.Core.Path.{_≡_};
+ghost use Prim.Native.Nat.{_+_, _≤_};
+ghost use lib.ListN.{length};
+ghost use Rattle.rules.specs.Frames.{ADD, LEARN, FORGET, PROMOTE, DROP, WEAKEN, RESTORE, SAT, UNSAT};
+ghost use Rattle.rules.specs.Answers.{check};
+ghost use Rattle.table.specs.Spelled.{Fit, spelled};
+ghost use Rattle.apply.specs.Applied.{Answered, Applied, accepted-with, answer-of, answered-with, refused-with};
+use judge::Judged;
+use rules::Answer;
+use rules::Check;
+use rules::Fault;
+use table::Table;
+
+// What a frame wrote: an accepted SAT the model buffer, an accepted change the tables, everything else nothing.
+pub enum Written {
+    Nothing,
+    Tables,
+    Model,
+}
+
+// The answer, the numbers beside the tables after it, and what was written.
+pub struct Stepped {
+    pub answer: Answer,
+    pub table: Table,
+    pub written: Written,
+}
+
+pub fn refused(fault: Fault, table: Table) -> Stepped
+    ensures { λ r. ⌜ r ≡ refused-with fault table ⌝ }
+{
+    Stepped {
+        answer: Answer::Refused(fault),
+        table,
+        written: Written::Nothing,
+    }
+}
+
+fn accepted(table: Table) -> Stepped
+    ensures { λ r. ⌜ r ≡ accepted-with table ⌝ }
+{
+    Stepped {
+        answer: Answer::Accepted(0),
+        table,
+        written: Written::Tables,
+    }
+}
+
+// An answer to SAT or UNSAT; `written` is what an accepted one wrote.
+pub fn answered(answer: Answer, written: Written, table: Table) -> Stepped
+    ensures { λ r. ⌜ r ≡ answered-with answer written table ⌝ }
+{
+    match answer {
+        Answer::Accepted(_) => Stepped {
+            answer,
+            table,
+            written,
+        },
+        Answer::Refused(_) => Stepped {
+            answer,
+            table,
+            written: Written::Nothing,
+        },
+    }
+}
+
+// ---- the operations that write: judge, then apply
+
+pub fn add(
+    rows: &mut [[u32; 5]],
+    pool: &mut [i32],
+    stack: &[u32],
+    t: Table,
+    id: u32,
+    c: &[i32],
+) -> Stepped
+    requires { ⌜ Fit t (now rows) (now pool) (now stack) × (length (now c) ≤ 256) × (id ≤ 2147483647) ⌝ }
+    ensures { λ r. ⌜ Applied t (now (rows .entry)) (now (pool .entry)) (now (stack .entry)) (ADD id (now (c .entry))) r (now (rows .exit)) (now (pool .exit)) (now (stack .entry)) ⌝ }
+{
+    let check = judge::judge_add(rows, pool, stack, t, id, c);
+    if let Check::Failed(fault) = check {
+        return refused(fault, t);
+    }
+    accepted(writes::append(rows, pool, t, 0, id, c))
+}
+
+pub fn learn(
+    rows: &mut [[u32; 5]],
+    pool: &mut [i32],
+    stack: &[u32],
+    t: Table,
+    id: u32,
+    c: &[i32],
+    hints: &[i32],
+) -> Stepped
+    requires { ⌜ Fit t (now rows) (now pool) (now stack) × (length (now c) ≤ 256) × (length (now hints) ≤ 4096) × (id ≤ 2147483647) ⌝ }
+    ensures { λ r. ⌜ Applied t (now (rows .entry)) (now (pool .entry)) (now (stack .entry)) (LEARN id (now (c .entry)) (now (hints .entry))) r (now (rows .exit)) (now (pool .exit)) (now (stack .entry)) ⌝ }
+{
+    let check = judge::judge_learn(rows, pool, stack, t, id, c, hints);
+    if let Check::Failed(fault) = check {
+        return refused(fault, t);
+    }
+    accepted(writes::append(rows, pool, t, 1, id, c))
+}
+
+pub fn forget(rows: &mut [[u32; 5]], pool: &[i32], stack: &[u32], t: Table, id: u32) -> Stepped
+    requires { ⌜ Fit t (now rows) (now pool) (now stack) ⌝ }
+    ensures { λ r. ⌜ Applied t (now (rows .entry)) (now (pool .entry)) (now (stack .entry)) (FORGET id) r (now (rows .exit)) (now (pool .entry)) (now (stack .entry)) ⌝ }
+{
+    let judged = judge::judge_learned(rows, pool, stack, t, id);
+    match judged {
+        Judged::Refused(fault) => refused(fault, t),
+        Judged::Accepted(k) => accepted(writes::remove(rows, t, k)),
+    }
+}
+
+pub fn promote(rows: &mut [[u32; 5]], pool: &[i32], stack: &[u32], t: Table, id: u32) -> Stepped
+    requires { ⌜ Fit t (now rows) (now pool) (now stack) ⌝ }
+    ensures { λ r. ⌜ Applied t (now (rows .entry)) (now (pool .entry)) (now (stack .entry)) (PROMOTE id) r (now (rows .exit)) (now (pool .entry)) (now (stack .entry)) ⌝ }
+{
+    let judged = judge::judge_learned(rows, pool, stack, t, id);
+    match judged {
+        Judged::Refused(fault) => refused(fault, t),
+        Judged::Accepted(k) => accepted(writes::promote(rows, t, k)),
+    }
+}
+
+pub fn drop_clause(
+    rows: &mut [[u32; 5]],
+    pool: &[i32],
+    stack: &[u32],
+    t: Table,
+    id: u32,
+    hints: &[i32],
+) -> Stepped
+    requires { ⌜ Fit t (now rows) (now pool) (now stack) × (length (now hints) ≤ 4096) ⌝ }
+    ensures { λ r. ⌜ Applied t (now (rows .entry)) (now (pool .entry)) (now (stack .entry)) (DROP id (now (hints .entry))) r (now (rows .exit)) (now (pool .entry)) (now (stack .entry)) ⌝ }
+{
+    let judged = judge::judge_drop(rows, pool, stack, t, id, hints);
+    match judged {
+        Judged::Refused(fault) => refused(fault, t),
+        Judged::Accepted(k) => accepted(writes::remove(rows, t, k)),
+    }
+}
+
+pub fn weaken(
+    rows: &mut [[u32; 5]],
+    pool: &mut [i32],
+    stack: &mut [u32],
+    t: Table,
+    id: u32,
+    w: &[i32],
+    ws: &[i32],
+) -> Stepped
+    requires { ⌜ Fit t (now rows) (now pool) (now stack) × (length (now w) ≤ 256) × (3 + length (now w) + length (now ws) ≤ 4096) ⌝ }
+    ensures { λ r. ⌜ Applied t (now (rows .entry)) (now (pool .entry)) (now (stack .entry)) (WEAKEN id (now (w .entry)) (now (ws .entry))) r (now (rows .exit)) (now (pool .exit)) (now (stack .exit)) ⌝ }
+{
+    let judged = groups::judge_weaken(rows, pool, stack, t, id, w, ws);
+    match judged {
+        Judged::Refused(fault) => refused(fault, t),
+        Judged::Accepted(k) => accepted(writes::weaken(rows, pool, stack, t, k, w)),
+    }
+}
+
+pub fn restore(rows: &mut [[u32; 5]], pool: &[i32], stack: &mut [u32], t: Table, id: u32) -> Stepped
+    requires { ⌜ Fit t (now rows) (now pool) (now stack) ⌝ }
+    ensures { λ r. ⌜ Applied t (now (rows .entry)) (now (pool .entry)) (now (stack .entry)) (RESTORE id) r (now (rows .exit)) (now (pool .entry)) (now (stack .exit)) ⌝ }
+{
+    let judged = judge::judge_restore(rows, pool, stack, t, id);
+    match judged {
+        Judged::Refused(fault) => refused(fault, t),
+        Judged::Accepted(k) => accepted(writes::restore(rows, stack, t, k)),
+    }
+}
+
+// ---- the answers, which write no table
+
+// SAT: the offered assignment is mended by the walk down the stack; only an accepted one writes the model.
+pub fn sat(
+    rows: &[[u32; 5]],
+    pool: &[i32],
+    stack: &[u32],
+    t: Table,
+    assumed: &[i32],
+    vs: &[i32],
+    model: &mut [u64; 32],
+) -> Answer
+    requires { ⌜ Fit t (now rows) (now pool) (now stack) × (length (now assumed) ≤ 256) × (length (now vs) ≤ 4096) ⌝ }
+    ensures { λ r. ⌜ Answered t (now (rows .entry)) (now (pool .entry)) (now (stack .entry)) (SAT (now (assumed .entry)) (now (vs .entry))) r (now (model .entry)) (now (model .exit)) ⌝ }
+{
+    let offer = judge::judge_sat(rows, pool, stack, t, assumed, vs);
+    let check = offer.check;
+    if let Check::Failed(fault) = check {
+        return Answer::Refused(fault);
+    }
+    let offered = offer.offered;
+    let n = t.count as usize;
+    let depth = t.depth as usize;
+    let mended = walk::mend(&rows[..n], pool, &stack[..depth], offered);
+    let changed = words::changed(&offered, &mended);
+    *model = mended;
+    Answer::Accepted(changed)
+}
+
+pub fn unsat(
+    rows: &[[u32; 5]],
+    pool: &[i32],
+    stack: &[u32],
+    t: Table,
+    assumed: &[i32],
+    hints: &[i32],
+) -> Answer
+    requires { ⌜ Fit t (now rows) (now pool) (now stack) × (length (now assumed) ≤ 256) × (length (now hints) ≤ 4096) ⌝ }
+    ensures { λ r. ⌜ r ≡ answer-of (check (spelled t (now (rows .entry)) (now (pool .entry)) (now (stack .entry))) (UNSAT (now (assumed .entry)) (now (hints .entry)))) ⌝ }
+{
+    let check = judge::judge_unsat(rows, pool, stack, t, assumed, hints);
+    if let Check::Failed(fault) = check {
+        return Answer::Refused(fault);
+    }
+    Answer::Accepted(0)
+}

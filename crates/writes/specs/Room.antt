@@ -1,0 +1,50 @@
+-- Room at the pool's tail, made by bringing all parts together at its front.
+use mathlib.Core.Path.{_≡_}
+use mathlib.Core.List.{List, [], _∷_, _++_, map}
+use Prim.Native.Nat.{ℕ, _+_, _-_, _≤_}
+use lib.IntN.{ℤ}
+use lib.ListN.{length, take, drop}
+use Rattle.table.specs.Facts.{total}
+use Rattle.table.specs.Spelled.{Row, id-of, place-of, start-of, length-of, witness-of, size, part, entry, held-rows, spelled, Fit}
+use Rattle.table.specs.declared.Table.{Table}
+
+-- the row, with its part at `at`
+abbrev pub pointed : ℕ → Row → Row
+pointed at r = id-of r ∷ place-of r ∷ at ∷ length-of r ∷ witness-of r ∷ []
+
+-- rows whose parts follow one another from `at` on
+abbrev pub packed : ℕ → List Row → List Row
+packed at [] = []
+packed at (r ∷ rows) = pointed at r ∷ packed (at + size r) rows
+
+-- the parts, one after the other
+abbrev pub joined : List ℤ → List Row → List ℤ
+joined pool [] = []
+joined pool (r ∷ rows) = part pool (start-of r) (size r) ++ joined pool rows
+
+-- the first i rows are packed, and their parts stand in the buffer, before `at`
+pub record Gathered (rows₀ : List Row) (pool : List ℤ) (i at : ℕ) (rows : List Row) (buffer : List ℤ) : Type 0 where
+  pub rows-are : rows ≡ packed 0 (take i rows₀) ++ drop i rows₀
+  pub at-is : at ≡ total size (take i rows₀)
+  pub written : take at buffer ≡ joined pool (take i rows₀)
+
+-- n words are free behind top, and nothing else is changed: the same entries in the same order
+pub record Roomy (t : Table) (rows : List Row) (pool : List ℤ) (stack : List ℕ) (t′ : Table) (rows′ : List Row) (pool′ : List ℤ) (n : ℕ) : Type 0 where
+  pub fit : Fit t′ rows′ pool′ stack
+  pub same : spelled t′ rows′ pool′ stack ≡ spelled t rows pool stack
+  pub entries : map (entry pool′) (held-rows t′ rows′) ≡ map (entry pool) (held-rows t rows)
+  pub count : t′ .count ≡ t .count
+  pub words : t′ .words ≡ t .words
+  pub depth : t′ .depth ≡ t .depth
+  pub room : t′ .top + n ≤ length pool′
+
+-- ---- WEAKEN, in two halves: the row gives up its words, a record takes them and the witness's
+
+abbrev pub lessened : Table → ℕ → Table
+lessened t n = record { vars = t .vars; highest = t .highest; count = t .count; words = t .words - n; depth = t .depth; top = t .top }
+
+abbrev pub grown : Table → ℕ → Table
+grown t n = record { vars = t .vars; highest = t .highest; count = t .count; words = t .words + n; depth = t .depth + 1; top = t .top + n }
+
+abbrev pub blank-row : Row → Row
+blank-row r = id-of r ∷ 0 ∷ start-of r ∷ 0 ∷ 0 ∷ []

@@ -1,0 +1,239 @@
+// The writers of the working table. Each is called when its frame is accepted, and leaves what the paper says.
+ghost use mathlib.Core.Path.{_≡_};
+ghost use mathlib.Core.Bool.{true};
+ghost use mathlib.Core.List.{List, [], _∷_};
+ghost use Prim.Native.Nat.{ℕ, _+_, _<_, _≤_};
+ghost use lib.IntN.{ℤ};
+ghost use lib.ListN.{length, set};
+ghost use Rattle.rules.specs.Terms.{is-clause};
+ghost use Rattle.rules.specs.Frames.{ADD, DROP, FORGET, LEARN, PROMOTE, RESTORE, WEAKEN};
+ghost use Rattle.slices.specs.Writes.{Among, written};
+ghost use Rattle.table.specs.Spelled.{Fit, id-of, place-of, row-at, size};
+ghost use Rattle.writes.specs.Moved.{Fits, Moved, New, RowHeld, Weakenable};
+ghost use Rattle.writes.specs.Room.{Gathered, Roomy, blank-row, grown, lessened};
+use table::Table;
+
+// ---- what writers are made of
+
+// All parts, one after the other, into the buffer; each row points to its part there. How many words they are.
+fn gather(rows: &mut [[u32; 5]], t: Table, pool: &[i32], buffer: &mut [i32]) -> usize
+    requires { ⌜ Fits t (now rows) (now pool) × (t .words ≤ length (now buffer)) × (length (now buffer) ≤ 8192) ⌝ }
+    ensures { λ r. ⌜ Gathered (now (rows .entry)) (now (pool .entry)) (t .count) r (now (rows .exit)) (now (buffer .exit)) × (r ≡ t .words) ⌝ }
+{
+    let count = t.count as usize;
+    let mut i = 0;
+    let mut at: usize = 0;
+    while i < count {
+        let row = rows[i];
+        let start = table::wide(row[2]);
+        let size = table::wide(row[3]) + table::wide(row[4]);
+        let end = start + size;
+        slices::write_literals(&mut buffer[at..], &pool[start..end]);
+        rows[i] = [row[0], row[1], at as u32, row[3], row[4]];
+        at += size;
+        i += 1;
+    }
+    at
+}
+
+// All parts together at the pool's front, through a buffer.
+fn compact(rows: &mut [[u32; 5]], pool: &mut [i32], t: Table) -> Table
+    requires { ⌜ Fits t (now rows) (now pool) × (t .words ≤ length (now pool)) ⌝ }
+    ensures { λ r. ⌜ ((stack : List ℕ) (n : ℕ) → Fit t (now (rows .entry)) (now (pool .entry)) stack → t .words + n ≤ length (now (pool .entry))
+        → Roomy t (now (rows .entry)) (now (pool .entry)) stack r (now (rows .exit)) (now (pool .exit)) n) ⌝ }
+{
+    let mut buffer = [0i32; 8192];
+    let top = gather(rows, t, pool, &mut buffer);
+    slices::write_literals(pool, &buffer[0..top]);
+    Table {
+        vars: t.vars,
+        highest: t.highest,
+        count: t.count,
+        words: t.words,
+        depth: t.depth,
+        top: t.words,
+    }
+}
+
+// Room for n words behind top, by compaction where the tail is too short. 13 is judged by `words`, and that is enough.
+fn make_room(rows: &mut [[u32; 5]], pool: &mut [i32], t: Table, n: usize) -> Table
+    requires { ⌜ Fits t (now rows) (now pool) × (t .words + n ≤ length (now pool)) ⌝ }
+    ensures { λ r. ⌜ ((stack : List ℕ) → Fit t (now (rows .entry)) (now (pool .entry)) stack
+        → Roomy t (now (rows .entry)) (now (pool .entry)) stack r (now (rows .exit)) (now (pool .exit)) n) ⌝ }
+{
+    let top = t.top as usize;
+    if pool.len() - top < n {
+        return compact(rows, pool, t);
+    }
+    t
+}
+
+// A row without its words: an empty clause.
+fn blank(rows: &mut [[u32; 5]], t: Table, at: usize) -> Table
+    requires { ⌜ RowHeld t (now rows) at ⌝ }
+    ensures { λ r. ⌜ (now (rows .exit) ≡ set (now (rows .entry)) at (blank-row (row-at (now (rows .entry)) at))) × (r ≡ lessened t (size (row-at (now (rows .entry)) at))) ⌝ }
+{
+    let row = rows[at];
+    rows[at] = [row[0], 0, row[2], 0, 0];
+    Table {
+        vars: t.vars,
+        highest: t.highest,
+        count: t.count,
+        words: t.words - (row[3] + row[4]),
+        depth: t.depth,
+        top: t.top,
+    }
+}
+
+// A record's literals and, behind them, its witness to the tail; its row; its id on the stack.
+fn write_record(
+    rows: &mut [[u32; 5]],
+    pool: &mut [i32],
+    stack: &mut [u32],
+    t: Table,
+    at: usize,
+    lits: &[i32],
+    witness: &[i32],
+) -> Table
+    requires { ⌜ (at < length (now rows)) × (t .top + (length (now lits) + length (now witness)) ≤ length (now pool))
+        × (t .words + (length (now lits) + length (now witness)) ≤ length (now pool)) × (length (now pool) ≤ 8192) × (t .depth < length (now stack)) × (t .depth < 1024) ⌝ }
+    ensures { λ r. ⌜ (now (rows .exit) ≡ set (now (rows .entry)) at (id-of (row-at (now (rows .entry)) at) ∷ 2 ∷ t .top ∷ length (now (lits .entry)) ∷ length (now (witness .entry)) ∷ []))
+        × (now (pool .exit) ≡ written (written (now (pool .entry)) (t .top) (now (lits .entry))) (t .top + length (now (lits .entry))) (now (witness .entry)))
+        × (now (stack .exit) ≡ set (now (stack .entry)) (t .depth) (id-of (row-at (now (rows .entry)) at)))
+        × (r ≡ grown t (length (now (lits .entry)) + length (now (witness .entry)))) ⌝ }
+{
+    let id = rows[at][0];
+    let top = t.top as usize;
+    let depth = t.depth as usize;
+    slices::write_both(pool, top, lits, witness);
+    let n = lits.len() as u32;
+    let w = witness.len() as u32;
+    rows[at] = [id, 2, t.top, n, w];
+    stack[depth] = id;
+    Table {
+        vars: t.vars,
+        highest: t.highest,
+        count: t.count,
+        words: t.words + (n + w),
+        depth: t.depth + 1,
+        top: t.top + (n + w),
+    }
+}
+
+// ---- writers
+
+// ADD to place 0, LEARN to place 1: the literals go to the pool's tail, a row behind the last.
+pub fn append(
+    rows: &mut [[u32; 5]],
+    pool: &mut [i32],
+    t: Table,
+    place: u32,
+    id: u32,
+    lits: &[i32],
+) -> Table
+    requires { ⌜ Fits t (now rows) (now pool) × (t .count < length (now rows)) × (t .words + length (now lits) ≤ length (now pool)) ⌝ }
+    ensures added { λ r. ⌜ (place ≡ 0 → (stack : List ℕ) → Fit t (now (rows .entry)) (now (pool .entry)) stack → New t id → is-clause (t .vars) (now (lits .entry)) ≡ true
+        → Moved t (now (rows .entry)) (now (pool .entry)) stack r (now (rows .exit)) (now (pool .exit)) stack (ADD id (now (lits .entry)))) ⌝ }
+    ensures learned { λ r. ⌜ (place ≡ 1 → (stack : List ℕ) (hints : List ℤ) → Fit t (now (rows .entry)) (now (pool .entry)) stack → New t id → is-clause (t .vars) (now (lits .entry)) ≡ true
+        → Moved t (now (rows .entry)) (now (pool .entry)) stack r (now (rows .exit)) (now (pool .exit)) stack (LEARN id (now (lits .entry)) hints)) ⌝ }
+{
+    let u = make_room(rows, pool, t, lits.len());
+    let count = u.count as usize;
+    let top = u.top as usize;
+    let n = lits.len() as u32;
+    rows[count] = [id, place, u.top, n, 0];
+    slices::write_literals(&mut pool[top..], lits);
+    Table {
+        vars: u.vars,
+        highest: id,
+        count: u.count + 1,
+        words: u.words + n,
+        depth: u.depth,
+        top: u.top + n,
+    }
+}
+
+// WEAKEN: an irredundant clause goes to the top of the stack with its witness. Its own words are free again before room is made,
+// so that 13, which counts the witness alone, is enough also where the pool is full.
+pub fn weaken(
+    rows: &mut [[u32; 5]],
+    pool: &mut [i32],
+    stack: &mut [u32],
+    t: Table,
+    at: usize,
+    witness: &[i32],
+) -> Table
+    requires { ⌜ Fit t (now rows) (now pool) (now stack) × Weakenable t (now rows) (now pool) at (now witness) ⌝ }
+    ensures { λ r. ⌜ ((groups : List ℤ) → Moved t (now (rows .entry)) (now (pool .entry)) (now (stack .entry)) r (now (rows .exit)) (now (pool .exit)) (now (stack .exit))
+        (WEAKEN (id-of (row-at (now (rows .entry)) at)) (now (witness .entry)) groups)) ⌝ }
+{
+    let row = rows[at];
+    let start = table::wide(row[2]);
+    let n = table::wide(row[3]);
+    let end = start + n;
+    let mut lits = [0i32; 256];
+    slices::write_literals(&mut lits, &pool[start..end]);
+    let b = blank(rows, t, at);
+    let u = make_room(rows, pool, b, n + witness.len());
+    write_record(rows, pool, stack, u, at, &lits[0..n], witness)
+}
+
+// FORGET, DROP: the clause of the row at `at` goes. Its literals stay where they are, and are nobody's.
+pub fn remove(rows: &mut [[u32; 5]], t: Table, at: usize) -> Table
+    requires { ⌜ RowHeld t (now rows) at ⌝ }
+    ensures forgotten { λ r. ⌜ (place-of (row-at (now (rows .entry)) at) ≡ 1 → (pool : List ℤ) (stack : List ℕ) → Fit t (now (rows .entry)) pool stack
+        → Moved t (now (rows .entry)) pool stack r (now (rows .exit)) pool stack (FORGET (id-of (row-at (now (rows .entry)) at)))) ⌝ }
+    ensures dropped { λ r. ⌜ (place-of (row-at (now (rows .entry)) at) ≡ 0 → (pool : List ℤ) (stack : List ℕ) (hints : List ℤ) → Fit t (now (rows .entry)) pool stack
+        → Moved t (now (rows .entry)) pool stack r (now (rows .exit)) pool stack (DROP (id-of (row-at (now (rows .entry)) at)) hints)) ⌝ }
+{
+    let n = t.count as usize;
+    let row = rows[at];
+    slices::close_rows(rows, n, at);
+    Table {
+        vars: t.vars,
+        highest: t.highest,
+        count: t.count - 1,
+        words: t.words - (row[3] + row[4]),
+        depth: t.depth,
+        top: t.top,
+    }
+}
+
+// PROMOTE: a learned clause becomes irredundant.
+pub fn promote(rows: &mut [[u32; 5]], t: Table, at: usize) -> Table
+    requires { ⌜ RowHeld t (now rows) at ⌝ }
+    ensures { λ r. ⌜ (place-of (row-at (now (rows .entry)) at) ≡ 1 → (pool : List ℤ) (stack : List ℕ) → Fit t (now (rows .entry)) pool stack
+        → Moved t (now (rows .entry)) pool stack r (now (rows .exit)) pool stack (PROMOTE (id-of (row-at (now (rows .entry)) at)))) ⌝ }
+{
+    let row = rows[at];
+    rows[at] = [row[0], 0, row[2], row[3], 0];
+    Table {
+        vars: t.vars,
+        highest: t.highest,
+        count: t.count,
+        words: t.words - row[4],
+        depth: t.depth,
+        top: t.top,
+    }
+}
+
+// RESTORE: a stacked clause becomes irredundant. Its witness is forgotten, its id leaves the stack.
+pub fn restore(rows: &mut [[u32; 5]], stack: &mut [u32], t: Table, at: usize) -> Table
+    requires { ⌜ RowHeld t (now rows) at × (t .depth ≤ length (now stack)) × Among (now stack) (t .depth) (id-of (row-at (now rows) at)) ⌝ }
+    ensures { λ r. ⌜ (place-of (row-at (now (rows .entry)) at) ≡ 2 → (pool : List ℤ) → Fit t (now (rows .entry)) pool (now (stack .entry))
+        → Moved t (now (rows .entry)) pool (now (stack .entry)) r (now (rows .exit)) pool (now (stack .exit)) (RESTORE (id-of (row-at (now (rows .entry)) at)))) ⌝ }
+{
+    let row = rows[at];
+    let depth = t.depth as usize;
+    let from = slices::position(stack, depth, row[0]);
+    slices::close_stack(stack, depth, from);
+    rows[at] = [row[0], 0, row[2], row[3], 0];
+    Table {
+        vars: t.vars,
+        highest: t.highest,
+        count: t.count,
+        words: t.words - row[4],
+        depth: t.depth - 1,
+        top: t.top,
+    }
+}
