@@ -1,11 +1,11 @@
 use mathlib.Core.Path.{ap}
 use native.Mathlib.Omega.{arith}
 use borrow.Author.Needs.{needs}
 use Rattle.lines.specs.Hex.{hex}
 use Rattle.lines.specs.Lines.{numbered}
-use Rattle.lines.proofs.Writing.{hex-end, wrote-then, wrote-as}
-use Rattle.lines.proofs.put_numbers.Statement.{statement}
-use Rattle.lines.proofs.put_numbers.Tie as tie
+use Rattle.replies.proofs.Writing.{hex-end, wrote-then, wrote-as}
+use Rattle.replies.proofs.put_numbers.Statement.{statement}
+use Rattle.replies.proofs.put_numbers.Tie as tie
 
 code-requires : tie.Need-code-requires
 code-requires c κs = search needs

@@ -6,7 +6,7 @@ use Prim.Native.Nat.{ℕ, zero, suc, _+_, _-_, _*_, _/_, _%_, _^_, _≤_, _<_}
 use native.Mathlib.Omega.{arith}
 use native.Mathlib.Numerals.{add-one}
 use native.Mathlib.Nat.{add-zero, add-suc}
-use lib.ListN.{length, getD, length-append}
+use lib.ListN.{length, getD}
 use lib.Pow.{shr-shr}
 use lib.Dec.{eqb}
 use borrow.Author.Tests.{eq-eqb, ne-eqb}
@@ -15,31 +15,22 @@ use Rattle.rules.specs.Outcomes.{trues}
 use Rattle.rules.proofs.Lists.{by-cases}
 use Rattle.words.specs.Words.{bit, assigned}
 use Rattle.words.proofs.Bits.{bit-none}
 use Rattle.lines.specs.Hex.{hex}
 use Rattle.lines.specs.Lines.{spelled}
 use Rattle.lines.specs.Lent.{Wrote}
-use Rattle.lines.proofs.Writing.{hex-length, wrote-none, wrote-then, wrote-as}
+use Rattle.lines.proofs.Replies.{spelled-length, trues-few}
+use Rattle.replies.proofs.Writing.{wrote-none, wrote-then, wrote-as}
 
 spelled-append : (vs ws : List ℕ) → spelled (vs ++ ws) ≡ spelled vs ++ spelled ws
 unfolding spelled
 spelled-append [] ws = refl
 spelled-append (v ∷ vs) ws = ap (λ l. hex 8 v ++ l) (spelled-append vs ws) ∙ sym (append-assoc (hex 8 v) (spelled vs) (spelled ws))
 
-pub spelled-length : (vs : List ℕ) → length (spelled vs) ≡ 8 * length vs
-unfolding spelled
-spelled-length [] = refl
-spelled-length (v ∷ vs) = omega (arith, length-append (hex 8 v) (spelled vs), hex-length 8 v, spelled-length vs)
-
 module _ (α : Assignment) where
   trues-onto : (n : ℕ) (vs ws : List ℕ) → trues α n (vs ++ ws) ≡ trues α n vs ++ ws
   unfolding trues
   trues-onto zero vs ws = refl
   trues-onto (suc n) vs ws = by-cases (α (suc n)) (λ e. rw e (trues-onto n (suc n ∷ vs) ws)) (λ e. rw e (trues-onto n vs ws))
-
-  pub trues-few : (n : ℕ) (vs : List ℕ) → length (trues α n vs) ≤ n + length vs
-  unfolding trues
-  trues-few zero vs = omega arith
-  trues-few (suc n) vs = by-cases (α (suc n)) (λ e. rw e (omega (arith, trues-few n (suc n ∷ vs)))) (λ e. rw e (omega (arith, trues-few n vs)))
 
   -- one variable more that is true
   trues-more : (n : ℕ) → α (n + 1) ≡ true → spelled (trues α (n + 1) []) ≡ spelled (trues α n []) ++ hex 8 (n + 1)

@@ -1,7 +1,7 @@
 use borrow.Author.Needs.{needs}
-use Rattle.lines.proofs.Writing.{wrote-one}
-use Rattle.lines.proofs.put.Statement.{statement}
-use Rattle.lines.proofs.put.Tie as tie
+use Rattle.replies.proofs.Writing.{wrote-one}
+use Rattle.replies.proofs.put.Statement.{statement}
+use Rattle.replies.proofs.put.Tie as tie
 
 slice-write-out : tie.Need-slice-write-out
 slice-write-out c = search needs

@@ -1,10 +1,9 @@
 use native.Mathlib.Omega.{arith}
 use borrow.Author.Needs.{needs}
 use Rattle.lines.specs.Lines.{spelled}
-use Rattle.lines.proofs.Writing.{wrote-then}
-use Rattle.lines.proofs.Replies.{numbered-end}
-use Rattle.lines.proofs.put_answer.Statement.{statement}
-use Rattle.lines.proofs.put_answer.Tie as tie
+use Rattle.replies.proofs.Writing.{wrote-then, numbered-end}
+use Rattle.replies.proofs.put_answer.Statement.{statement}
+use Rattle.replies.proofs.put_answer.Tie as tie
 
 put-numbers-requires : tie.Need-put-numbers-requires
 put-numbers-requires c κs = search needs

@@ -2,9 +2,9 @@ use mathlib.Core.Path.{_≡_}
 use Prim.Native.Nat.{_-_}
 use native.Mathlib.Omega.{arith}
 use borrow.Author.Needs.{needs}
-use Rattle.lines.proofs.Model.{Spelling, spelling-start, spelling-room, spelling-true, spelling-false, spelling-past}
-use Rattle.lines.proofs.put_model.Statement.{statement}
-use Rattle.lines.proofs.put_model.Tie as tie
+use Rattle.replies.proofs.Model.{Spelling, spelling-start, spelling-room, spelling-true, spelling-false, spelling-past}
+use Rattle.replies.proofs.put_model.Statement.{statement}
+use Rattle.replies.proofs.put_model.Tie as tie
 
 abbrev Inv-loop : tie.InvT-loop
 Inv-loop out₀ at model a₀ i₀ out a i = Spelling out₀ at model out a i

@@ -1,8 +1,8 @@
 use borrow.Author.Needs.{needs}
 use borrow.Author.Tests.{lt-ltb, le-ltb}
 use Rattle.lines.specs.Hex.{glyph}
-use Rattle.lines.proofs.glyph_of.Statement.{statement}
-use Rattle.lines.proofs.glyph_of.Tie as tie
+use Rattle.replies.proofs.glyph_of.Statement.{statement}
+use Rattle.replies.proofs.glyph_of.Tie as tie
 
 cast-result : tie.Need-cast-result
 cast-result c = search needs

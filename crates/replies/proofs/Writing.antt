@@ -8,8 +8,11 @@ use native.Mathlib.Nat.{pow-suc}
 use lib.ListN.{length, take, set, length-append, length-set}
 use lib.Seq.{take-suc-set}
 use lib.Pow.{pow-add}
+use Rattle.rules.specs.declared.Answer.{Answer}
 use Rattle.lines.specs.Hex.{glyph, hex}
+use Rattle.lines.specs.Lines.{numbered}
 use Rattle.lines.specs.Lent.{Wrote}
+use Rattle.lines.proofs.Replies.{hex-length, numbered-length}
 
 pub wrote-none : (o : List ℕ) (a : ℕ) → Wrote o a [] o a
 wrote-none o a = record { place = omega arith; bytes = sym (append-nil (take a o)) }
@@ -28,13 +31,12 @@ wrote-as {o} {xs} {ys} {o₁} {a} {a₁} e w = rw e at w
 
 -- ---- a number
 
-pub hex-length : (k n : ℕ) → length (hex k n) ≡ k
-unfolding hex
-hex-length zero n = refl
-hex-length (suc k) n = ap suc (hex-length k n)
-
 pub hex-end : {o : List ℕ} {at : ℕ} (k n : ℕ) {o′ : List ℕ} {a : ℕ} → Wrote o at (hex k n) o′ a → a ≡ at + k
 hex-end k n w = omega (arith, w .place, hex-length k n)
+
+-- the place behind code and detail
+pub numbered-end : {o : List ℕ} {at : ℕ} (x : Answer) {o′ : List ℕ} {a : ℕ} → Wrote o at (numbered x) o′ a → a ≡ at + 16
+numbered-end x w = omega (arith, w .place, numbered-length x)
 
 sixteens : (k : ℕ) → 2 ^ (4 * k) ≡ 16 ^ k
 sixteens zero = refl

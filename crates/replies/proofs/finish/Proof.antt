@@ -1,8 +1,8 @@
 use mathlib.Core.Logic.{⊎-elim}
 use borrow.Author.Needs.{needs}
-use Rattle.lines.proofs.Writing.{wrote-none}
-use Rattle.lines.proofs.finish.Statement.{statement}
-use Rattle.lines.proofs.finish.Tie as tie
+use Rattle.replies.proofs.Writing.{wrote-none}
+use Rattle.replies.proofs.finish.Statement.{statement}
+use Rattle.replies.proofs.finish.Tie as tie
 
 put-answer-requires : tie.Need-put-answer-requires
 put-answer-requires c κs = search needs

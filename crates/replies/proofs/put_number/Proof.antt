@@ -1,9 +1,9 @@
 use mathlib.Core.Path.{refl}
 use native.Mathlib.Omega.{arith}
 use borrow.Author.Needs.{needs}
-use Rattle.lines.proofs.Writing.{Digiting, digiting-more, digiting-end}
-use Rattle.lines.proofs.put_number.Statement.{statement}
-use Rattle.lines.proofs.put_number.Tie as tie
+use Rattle.replies.proofs.Writing.{Digiting, digiting-more, digiting-end}
+use Rattle.replies.proofs.put_number.Statement.{statement}
+use Rattle.replies.proofs.put_number.Tie as tie
 
 abbrev Inv-loop : tie.InvT-loop
 Inv-loop out₀ at n a₀ k₀ out a k = Digiting out₀ at n out a k
