@@ -13,10 +13,10 @@ use Rattle.clause.proofs.Faults.{ranged-in}
 use Rattle.words.specs.Words.{assigned}
 use Rattle.words.proofs.Made.{ascending-offers}
 use Rattle.table.specs.Spelled.{spelled}
-use Rattle.judge.specs.Judged.{check-offered, Offers}
+use Rattle.assumptions.specs.Offered.{check-offered, Offers}
 use Rattle.judge.proofs.Order.{goes-on, stops}
-use Rattle.judge.proofs.judge_sat.Statement.{statement}
-use Rattle.judge.proofs.judge_sat.Tie as tie
+use Rattle.assumptions.proofs.judge_sat.Statement.{statement}
+use Rattle.assumptions.proofs.judge_sat.Tie as tie
 
 -- words of the offered assignment are that whatever the checks came to
 offers : (check : Check) (vs : List ℤ) (words : List ℕ) → assigned words ≡ offered vs → Offers vs check words

@@ -11,10 +11,10 @@ use Rattle.rules.specs.declared.Check.the-variants.{Passed}
 use Rattle.clause.proofs.Faults.{ranged-in}
 use Rattle.table.proofs.Readers.{readable, count-rows}
 use Rattle.hints.proofs.Scopes.{allows-all}
 use Rattle.judge.proofs.Order.{goes-on, stops}
 use Rattle.judge.proofs.Verdicts.{stopped-within}
-use Rattle.judge.proofs.judge_unsat.Statement.{statement}
-use Rattle.judge.proofs.judge_unsat.Tie as tie
+use Rattle.assumptions.proofs.judge_unsat.Statement.{statement}
+use Rattle.assumptions.proofs.judge_unsat.Tie as tie
 
 -- past 3
 module _ (x : tie.After-enum-told) where
