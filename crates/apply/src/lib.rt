@@ -188,7 +188,7 @@ pub fn sat(
     requires { ⌜ Fit t (now rows) (now pool) (now stack) × (length (now assumed) ≤ 256) × (length (now vs) ≤ 4096) ⌝ }
     ensures { λ r. ⌜ Answered t (now (rows .entry)) (now (pool .entry)) (now (stack .entry)) (SAT (now (assumed .entry)) (now (vs .entry))) r (now (model .entry)) (now (model .exit)) ⌝ }
 {
-    let offer = judge::judge_sat(rows, pool, stack, t, assumed, vs);
+    let offer = assumptions::judge_sat(rows, pool, stack, t, assumed, vs);
     let check = offer.check;
     if let Check::Failed(fault) = check {
         return Answer::Refused(fault);
@@ -213,7 +213,7 @@ pub fn unsat(
     requires { ⌜ Fit t (now rows) (now pool) (now stack) × (length (now assumed) ≤ 256) × (length (now hints) ≤ 4096) ⌝ }
     ensures { λ r. ⌜ r ≡ answer-of (check (spelled t (now (rows .entry)) (now (pool .entry)) (now (stack .entry))) (UNSAT (now (assumed .entry)) (now (hints .entry)))) ⌝ }
 {
-    let check = judge::judge_unsat(rows, pool, stack, t, assumed, hints);
+    let check = assumptions::judge_unsat(rows, pool, stack, t, assumed, hints);
     if let Check::Failed(fault) = check {
         return Answer::Refused(fault);
     }

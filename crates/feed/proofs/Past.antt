@@ -19,7 +19,7 @@ use Rattle.rules.proofs.Checks.{then-left, then-right, need-true}
 use Rattle.table.specs.Spelled.{Row, spelled, Fit}
 use Rattle.table.specs.declared.Table.{Table}
 use Rattle.apply.proofs.Mending.{past-vars}
-use Rattle.lines.proofs.Model.{trues-past}
+use Rattle.replies.proofs.Model.{trues-past}
 
 not-same : (vars : ℕ) (x : ℤ) (v : ℕ) → in-range vars x ≡ true → vars < v → same x (pos v) ≡ false
 not-same vars (pos zero) v r h = by-cases (same (pos 0) (pos v)) (λ e. let z = eqb-true 0 v e in absurd (omega arith)) (λ e. e)

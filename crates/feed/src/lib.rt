@@ -25,9 +25,9 @@ fn put_reply(
     ensures { λ r. ⌜ lent.Wrote (now (out .entry)) at (paper.written answer (listed written (now (model .entry)))) (now (out .exit)) r ⌝ }
 {
     match written {
-        Written::Nothing => lines::put_answer(out, at, answer),
-        Written::Tables => lines::put_answer(out, at, answer),
-        Written::Model => lines::put_sat(out, at, answer, model),
+        Written::Nothing => replies::put_answer(out, at, answer),
+        Written::Tables => replies::put_answer(out, at, answer),
+        Written::Model => replies::put_sat(out, at, answer, model),
     }
 }
 
@@ -62,7 +62,7 @@ fn close(
         let a = put_reply(out, at, answer, written, &model);
         return Closed { at: a, table };
     }
-    let a = lines::put_answer(out, at, Answer::Refused(Fault::Malformed));
+    let a = replies::put_answer(out, at, Answer::Refused(Fault::Malformed));
     Closed { at: a, table: t }
 }
 

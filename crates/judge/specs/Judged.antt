@@ -4,12 +4,9 @@ use mathlib.Core.Bool.{false}
 use mathlib.Core.List.{List}
 use Prim.Native.Nat.{ℕ, _<_}
 use lib.IntN.{ℤ}
-use Rattle.rules.specs.Terms.{Assignment, State, has}
-use Rattle.rules.specs.Frames.{offered}
-use Rattle.rules.specs.Answers.{_then_, assumed-true, cleanly, satisfied}
+use Rattle.rules.specs.Terms.{has}
 use Rattle.rules.specs.declared.Check.{Check}
 use Rattle.rules.specs.declared.Check.the-variants.{Passed, Failed}
-use Rattle.words.specs.Words.{assigned}
 use Rattle.table.specs.Spelled.{Row, row-at, id-of, place-of, held-rows, clauses}
 use Rattle.table.specs.declared.Table.{Table}
 use Rattle.table.specs.declared.Found.{Found}
@@ -32,15 +29,3 @@ Located-in t rows place i Nothing = (pool : List ℤ) → has (clauses place poo
 abbrev pub Judges : Table → List Row → ℕ → ℕ → Check → Judged → Type 0
 Judges t rows place i check (Accepted k) = (check ≡ Passed) × RowOf t rows place i k
 Judges t rows place i check (Refused f) = check ≡ Failed f
-
--- "SAT 11, 5, 10", of the offered assignment α
-abbrev pub check-offered : State → Assignment → List ℤ → Check
-check-offered s α assumed =
-    assumed-true α 2 assumed then
-    cleanly assumed (s .stack) then
-    satisfied α (s .irredundant)
-
--- where the checks passed, the words are those of the offered assignment
-abbrev pub Offers : List ℤ → Check → List ℕ → Type 0
-Offers vs Passed words = assigned words ≡ offered vs
-Offers vs (Failed f) words = Unit {0}

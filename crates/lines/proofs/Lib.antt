@@ -7,7 +7,5 @@ pub mod Program
 pub mod Example
 -- what the loops of the code keep, and what a loop above that feeds the checker will keep
 pub mod Words
-pub mod Writing
-pub mod Model
 pub mod Replies
 pub mod Feeding

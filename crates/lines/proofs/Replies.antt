@@ -1,34 +1,45 @@
--- A reply: the place behind its code and detail, the room that it takes, and V, which no frame changes.
-use mathlib.Core.Path.{_≡_, refl}
+-- A reply: its length, the room that it takes, and V, which no frame changes.
+use mathlib.Core.Path.{_≡_, refl, ap}
 use mathlib.Core.Bool.{Bool, true, false, cond}
 use mathlib.Core.List.{List, [], _∷_, _++_}
 use mathlib.Core.Option.{Option, none, some}
-use Prim.Native.Nat.{ℕ, _+_, _≤_}
+use Prim.Native.Nat.{ℕ, zero, suc, _+_, _*_, _≤_}
 use native.Mathlib.Omega.{arith}
 use lib.ListN.{length, length-append}
 use lib.IntN.{ℤ}
-use Rattle.rules.specs.Terms.{State}
+use Rattle.rules.specs.Terms.{State, Assignment}
 use Rattle.rules.specs.Frames.{Frame, ADD, LEARN, FORGET, PROMOTE, DROP, WEAKEN, RESTORE, SAT, UNSAT, Parsed, malformed, framed, parse, next}
 use Rattle.rules.specs.Answers.{numbers, Handed, untouched, mended, Outcome, outcome, outcome-parsed, settled, check}
+use Rattle.rules.specs.Outcomes.{trues}
 use Rattle.rules.specs.declared.Answer.{Answer}
 use Rattle.rules.specs.declared.Answer.the-variants.{Refused}
 use Rattle.rules.specs.declared.Fault.the-variants.{Malformed}
 use Rattle.rules.specs.declared.Check.{Check}
 use Rattle.rules.specs.declared.Check.the-variants.{Passed, Failed}
+use Rattle.rules.proofs.Lists.{by-cases}
 use Rattle.lines.specs.Hex.{hex}
 use Rattle.lines.specs.Lines.{judged, spelled, numbered, following, reply, refusal}
 use Rattle.lines.specs.Machine.{is-begun, ended}
 use Rattle.lines.specs.Lent.{Wrote}
-use Rattle.lines.proofs.Writing.{hex-length}
-use Rattle.lines.proofs.Model.{spelled-length, trues-few}
 
-numbered-length : (a : Answer) → length (numbered a) ≡ 16
+pub hex-length : (k n : ℕ) → length (hex k n) ≡ k
+unfolding hex
+hex-length zero n = refl
+hex-length (suc k) n = ap suc (hex-length k n)
+
+pub numbered-length : (a : Answer) → length (numbered a) ≡ 16
 unfolding numbered
 numbered-length a = omega (arith, length-append (hex 8 (numbers a .0)) (hex 8 (numbers a .1)), hex-length 8 (numbers a .0), hex-length 8 (numbers a .1))
 
--- the place behind code and detail
-pub numbered-end : {o : List ℕ} {at : ℕ} (x : Answer) {o′ : List ℕ} {a : ℕ} → Wrote o at (numbered x) o′ a → a ≡ at + 16
-numbered-end x w = omega (arith, w .place, numbered-length x)
+pub spelled-length : (vs : List ℕ) → length (spelled vs) ≡ 8 * length vs
+unfolding spelled
+spelled-length [] = refl
+spelled-length (v ∷ vs) = omega (arith, length-append (hex 8 v) (spelled vs), hex-length 8 v, spelled-length vs)
+
+pub trues-few : (α : Assignment) (n : ℕ) (vs : List ℕ) → length (trues α n vs) ≤ n + length vs
+unfolding trues
+trues-few α zero vs = omega arith
+trues-few α (suc n) vs = by-cases (α (suc n)) (λ e. rw e (omega (arith, trues-few α n (suc n ∷ vs)))) (λ e. rw e (omega (arith, trues-few α n vs)))
 
 -- room for any reply
 pub reply-room : {o : List ℕ} {at : ℕ} (vars : ℕ) (r : Outcome) {o′ : List ℕ} {a : ℕ} → vars ≤ 2048 → Wrote o at (reply vars r) o′ a → a ≤ at + 16401

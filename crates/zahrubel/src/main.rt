@@ -65,7 +65,7 @@ fn main() {
         let got = libc::read(0, &mut buf);
         let n = io::count(got, &buf);
         if n == 0 {
-            let k = lines::finish(reader, &mut out, 0);
+            let k = replies::finish(reader, &mut out, 0);
             io::write_all(1, &out[..k]);
             return;
         }

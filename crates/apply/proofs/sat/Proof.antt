@@ -2,7 +2,7 @@ use mathlib.Core.Path.{_≡_, sym, _∙_, subst}
 use Rattle.rules.specs.Frames.{Frame, SAT, offered}
 use Rattle.rules.specs.declared.Check.the-variants.{Passed}
 use Rattle.words.specs.Words.{assigned}
-use Rattle.judge.specs.Judged.{Offers}
+use Rattle.assumptions.specs.Offered.{Offers}
 use Rattle.apply.proofs.Mending.{sat-refused, sat-accepted}
 use Rattle.rules.specs.Answers.{check}
 use Rattle.table.specs.Spelled.{spelled}

@@ -1,0 +1,3 @@
+-- what the loops that write keep
+pub mod Writing
+pub mod Model
