@@ -11,24 +11,29 @@ use Rattle.table.specs.Facts.{none, alone}
 use Rattle.table.specs.Spelled.{Row, spelled, Fit}
 use Rattle.table.specs.declared.Table.{Table}
 
-abbrev pub empty : ℕ → Table
-empty vars = record { vars = vars; highest = 0; count = 0; words = 0; depth = 0; top = 0 }
+-- no clause is held, and at most n may be
+abbrev pub empty : ℕ → ℕ → Table
+empty vars n = record { vars = vars; highest = 0; entries = n; count = 0; gone = 0; words = 0; depth = 0; top = 0 }
 
 module _ (vars : ℕ) (rows : List Row) (pool : List ℤ) (stack : List ℕ) where
-  pub empty-fit : 0 < vars → vars ≤ 2048 → length rows ≤ 1024 → length pool ≤ 8192 → length rows ≤ length stack → Fit (empty vars) rows pool stack
+  pub empty-fit : 0 < vars → vars ≤ 2048 → length rows ≤ 1024 → length pool ≤ 8192 → length rows ≤ length stack → Fit (empty vars (length rows)) rows pool stack
   unfolding only
   empty-fit low high entries words ids = record {
     vars-fit = (low, high);
     highest-fit = omega arith;
-    rows-lent = entries;
+    entries-lent = entries;
+    rows-lent = omega arith;
     pool-lent = words;
     stack-lent = ids;
+    entries-fit = omega arith;
     rows-fit = omega arith;
+    held-fit = omega arith;
     pool-fit = omega arith;
     stack-fit = omega arith;
+    gone-fit = refl;
     core = record { rising = alone; known = none; inside = none; apart = alone; lawful = none; counted = refl; listed = record { each = none; once = alone; whole = refl } };
   }
 
-  pub empty-spelled : spelled (empty vars) rows pool stack ≡ opened vars (length rows) (length pool)
+  pub empty-spelled : spelled (empty vars (length rows)) rows pool stack ≡ opened vars (length rows) (length pool)
   unfolding only
   empty-spelled = refl

@@ -2,7 +2,7 @@
 use mathlib.Core.Path.{_≡_, refl, sym, _∙_, ap, subst}
 use mathlib.Core.Bool.{true, false, cond}
 use mathlib.Core.List.{List, [], _∷_, _++_, map, reverse, reverse-append}
-use Prim.Native.Nat.{ℕ, zero, suc, _+_, _<_, _≤_}
+use Prim.Native.Nat.{ℕ, zero, suc, _+_, _-_, _<_, _≤_}
 use native.Mathlib.Omega.{arith}
 use native.Mathlib.Numerals.{add-one}
 use lib.Dec.{eqb, ltb, leb}
@@ -14,12 +14,12 @@ use Rattle.rules.specs.Lists.{all, only}
 use Rattle.rules.specs.Terms.{in-range, distinct, is-clause, Held, State, has, fetch, everything, room}
 use Rattle.rules.specs.Answers.{need, free-entry, free-words}
 use Rattle.rules.specs.declared.Fault.the-variants.{NoEntry, NoWords}
-use Rattle.rules.proofs.Lists.{and-left, and-right, all-at, all-of}
+use Rattle.rules.proofs.Lists.{by-cases, true-false, and-left, and-right, all-at, all-of}
 use Rattle.rules.proofs.Places.{words-of, length-without, room-append}
 use Rattle.slices.specs.Writes.{Among}
 use Rattle.slices.proofs.Slices.{in-reverse, among-of}
 use Rattle.table.specs.Facts.{All, none, both, total}
-use Rattle.table.specs.Spelled.{Row, row-at, id-of, place-of, size, held, stands, clauses, held-rows, from-top, spelled, Inside, Fit, Readable, Located}
+use Rattle.table.specs.Spelled.{Row, row-at, id-of, place-of, size, held, stands, clauses, held-rows, from-top, spelled, Inside, Lawful, gone-one, Fit, Readable, Located}
 use Rattle.table.specs.declared.Table.{Table}
 use Rattle.table.specs.declared.Found.the-variants.{Nothing}
 use Rattle.table.proofs.Facts.{all-index, all-unreverse, all-more}
@@ -28,24 +28,25 @@ use Rattle.table.proofs.Finding as finding
 use Rattle.table.proofs.Stacked.{listed-has, listed-in, listed-fetch}
 use Rattle.table.proofs.Rows.{clause-length, witness-length, lawful-placed, lawful-clause, lawful-witness, clause-short}
 
--- ---- each row stands in one of the three places: a number of each, summed over the places, is summed over the rows
+-- ---- each row stands in one of the three places, or is gone: a number of each, summed over the places, is summed over the rows
 
 module _ (f : Held → ℕ) (sum : List Held → ℕ) (sum-nil : sum [] ≡ 0) (sum-cons : (h : Held) (hs : List Held) → sum (h ∷ hs) ≡ f h + sum hs) (pool : List ℤ) where
   -- the clauses of the place p, where the row r that stands in q comes first
   abbrev seen : Row → ℕ → ℕ → List Row → List Held
   seen r q p rows = map (held pool) (cond (eqb q p) (r ∷ only (stands p) rows) (only (stands p) rows))
 
-  over-places : (rows : List Row) → All (λ r. place-of r ≤ 2) rows → sum (clauses 0 pool rows) + sum (clauses 1 pool rows) + sum (clauses 2 pool rows) ≡ total (λ r. f (held pool r)) rows
+  over-places : (rows : List Row) → All (λ r. place-of r ≤ 3) rows → sum (clauses 0 pool rows) + sum (clauses 1 pool rows) + sum (clauses 2 pool rows) + sum (clauses 3 pool rows) ≡ total (λ r. f (held pool r)) rows
   unfolding only
   over-places [] none = rw sum-nil
   over-places (r ∷ rows) (both p a) = one (place-of r) p (over-places rows a)
     where
-      one : (q : ℕ) → q ≤ 2 → sum (clauses 0 pool rows) + sum (clauses 1 pool rows) + sum (clauses 2 pool rows) ≡ total (λ x. f (held pool x)) rows
-          → sum (seen r q 0 rows) + sum (seen r q 1 rows) + sum (seen r q 2 rows) ≡ f (held pool r) + total (λ x. f (held pool x)) rows
+      one : (q : ℕ) → q ≤ 3 → sum (clauses 0 pool rows) + sum (clauses 1 pool rows) + sum (clauses 2 pool rows) + sum (clauses 3 pool rows) ≡ total (λ x. f (held pool x)) rows
+          → sum (seen r q 0 rows) + sum (seen r q 1 rows) + sum (seen r q 2 rows) + sum (seen r q 3 rows) ≡ f (held pool r) + total (λ x. f (held pool x)) rows
       one zero h i = omega (arith, sum-cons (held pool r) (clauses 0 pool rows))
       one (suc zero) h i = omega (arith, sum-cons (held pool r) (clauses 1 pool rows))
       one (suc (suc zero)) h i = omega (arith, sum-cons (held pool r) (clauses 2 pool rows))
-      one (suc (suc (suc q))) h i = absurd (omega arith)
+      one (suc (suc (suc zero))) h i = omega (arith, sum-cons (held pool r) (clauses 3 pool rows))
+      one (suc (suc (suc (suc q)))) h i = absurd (omega arith)
 
 total-ones : (rows : List Row) → total (λ r. 1) rows ≡ length rows
 total-ones [] = refl
@@ -62,6 +63,28 @@ room-nil = refl
 room-cons : (h : Held) (hs : List Held) → room (h ∷ hs) ≡ words-of h + room hs
 unfolding room
 room-cons h hs = refl
+
+-- ---- the rows whose clause is gone
+
+gone-length : (pool : List ℤ) (rows : List Row) → length (clauses 3 pool rows) ≡ total gone-one rows
+unfolding only
+gone-length pool [] = refl
+gone-length pool (r ∷ rows) = by-cases (stands 3 r) (λ e. rw e (omega (arith, gone-length pool rows))) (λ e. rw e (omega (arith, gone-length pool rows)))
+
+wordless : (vars p : ℕ) (h : Held) → eqb p 3 ≡ true → Lawful vars p h → words-of h ≡ 0
+unfolding Lawful
+wordless vars zero h e l = true-false refl (sym e)
+wordless vars (suc zero) h e l = true-false refl (sym e)
+wordless vars (suc (suc zero)) h e l = true-false refl (sym e)
+wordless vars (suc (suc (suc zero))) h e l = omega (arith, ap length (l .0), ap length (l .1))
+wordless vars (suc (suc (suc (suc p)))) h e l = absurd l
+
+gone-room : (vars : ℕ) (pool : List ℤ) {rows : List Row} → All (λ r. Lawful vars (place-of r) (held pool r)) rows → room (clauses 3 pool rows) ≡ 0
+unfolding only
+gone-room vars pool none = room-nil
+gone-room vars pool (both {x} {xs} l a) = by-cases (stands 3 x)
+    (λ e. rw e (omega (arith, room-cons (held pool x) (clauses 3 pool xs), wordless vars (place-of x) (held pool x) e l, gone-room vars pool a)))
+    (λ e. rw e (gone-room vars pool a))
 
 -- ---- literals within V are within 2,048
 
@@ -103,7 +126,6 @@ module _ {t : Table} {rows : List Row} {pool : List ℤ} {stack : List ℕ} (f :
   readable = record {
     rising = f .core .rising;
     positive = λ k h. all-index (f .core .known) k [] h .0;
-    placed = λ k h. lawful-placed (t .vars) _ _ (all-index (f .core .lawful) k [] h);
     inside = λ k h. all-index in-pool k [] h;
     ranged = λ k h. clause-ranged (t .vars) _ (f .vars-fit .1) (lawful-clause (t .vars) _ _ (all-index (f .core .lawful) k [] h));
     witness-ranged = λ k h. clause-ranged (t .vars) _ (f .vars-fit .1) (lawful-witness (t .vars) _ _ (all-index (f .core .lawful) k [] h));
@@ -116,7 +138,7 @@ module _ {t : Table} {rows : List Row} {pool : List ℤ} {stack : List ℕ} (f :
 
   -- ---- counts
 
-  placed : All (λ r. place-of r ≤ 2) rs
+  placed : All (λ r. place-of r ≤ 3) rs
   placed = all-more (λ r l. lawful-placed (t .vars) (place-of r) (held pool r) l) (f .core .lawful)
 
   -- the stack is as deep as there are stacked clauses
@@ -126,10 +148,13 @@ module _ {t : Table} {rows : List Row} {pool : List ℤ} {stack : List ℕ} (f :
   depth-is : length (s .stack) ≡ t .depth
   depth-is = length-map (from-top t stack) _ ∙ length-reverse (take (t .depth) stack) ∙ length-take-le (t .depth) stack (f .stack-fit)
 
-  count-places : length (clauses 0 pool rs) + length (clauses 1 pool rs) + length (clauses 2 pool rs) ≡ t .count
-  count-places = over-places (λ h. 1) length refl (λ h hs. omega arith) pool rs placed ∙ total-ones rs ∙ count-rows
+  count-places : length (clauses 0 pool rs) + length (clauses 1 pool rs) + length (clauses 2 pool rs) + t .gone ≡ t .count
+  count-places = omega (arith, over-places (λ h. 1) length refl (λ h hs. omega arith) pool rs placed, total-ones rs, count-rows, gone-length pool rs, f .gone-fit)
 
-  pub count-held : length (everything s) ≡ t .count
+  pub gone-most : t .gone ≤ t .count
+  gone-most = omega (arith, count-places)
+
+  pub count-held : length (everything s) ≡ t .count - t .gone
   count-held =
       omega (arith, length-append (s .irredundant) (s .learned ++ s .stack), length-append (s .learned) (s .stack), depth-held, count-places)
 
@@ -142,12 +167,13 @@ module _ {t : Table} {rows : List Row} {pool : List ℤ} {stack : List ℕ} (f :
         room-settled (s .stack),
         ap room (f .core .listed .whole),
         over-places words-of room room-nil room-cons pool rs placed,
+        gone-room (t .vars) pool (f .core .lawful),
         total-sizes pool rs in-pool,
         f .core .counted,
       )
 
   -- 12 and 13 by the counts alone
-  pub free-entry-is : free-entry s ≡ need (ltb (t .count) (length rows)) NoEntry
+  pub free-entry-is : free-entry s ≡ need (ltb (t .count - t .gone) (t .entries)) NoEntry
   free-entry-is = let e = count-held in rw e
 
   pub free-words-is : (n : ℕ) → free-words s n ≡ need (leb (t .words + n) (length pool)) NoWords
@@ -178,7 +204,7 @@ module _ {t : Table} {rows : List Row} {pool : List ℤ} {stack : List ℕ} (f :
     stacked-row q = among-of (t .depth) stack (in-reverse _ (listed-in (f .core .listed) (id-of r) (has-at 2 ∙ eq-eqb (place-of r) 2 q)))
 
     -- where a clause is not stacked, the stack is not full
-    pub depth-below : place-of r ≡ 0 → t .depth < t .count
+    pub depth-below : place-of r ≡ 0 → t .depth + t .gone < t .count
     depth-below q = omega (arith, length-without (id-of r) (clauses 0 pool rs) (has-at 0 ∙ eq-eqb (place-of r) 0 q), depth-is, depth-held, count-places)
 
   -- ---- the same of a row held among all rows lent

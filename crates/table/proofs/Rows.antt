@@ -34,19 +34,21 @@ module _ (pool : List ℤ) (r : Row) (h : Inside (length pool) r) where
 -- ---- what a lawful clause is, in whatever place
 
 module _ (vars : ℕ) where
-  pub lawful-placed : (p : ℕ) (h : Held) → Lawful vars p h → p ≤ 2
+  pub lawful-placed : (p : ℕ) (h : Held) → Lawful vars p h → p ≤ 3
   unfolding Lawful
   lawful-placed zero h l = omega arith
   lawful-placed (suc zero) h l = omega arith
   lawful-placed (suc (suc zero)) h l = omega arith
-  lawful-placed (suc (suc (suc p))) h l = absurd l
+  lawful-placed (suc (suc (suc zero))) h l = omega arith
+  lawful-placed (suc (suc (suc (suc p)))) h l = absurd l
 
   pub lawful-clause : (p : ℕ) (h : Held) → Lawful vars p h → is-clause vars (h .lits) ≡ true
-  unfolding Lawful
+  unfolding Lawful is-clause all distinct
   lawful-clause zero h l = l .0
   lawful-clause (suc zero) h l = l .0
   lawful-clause (suc (suc zero)) h l = l .0
-  lawful-clause (suc (suc (suc p))) h l = absurd l
+  lawful-clause (suc (suc (suc zero))) h l = let e = l .0 in rw e
+  lawful-clause (suc (suc (suc (suc p)))) h l = absurd l
 
   -- no witness is a clause too
   pub lawful-witness : (p : ℕ) (h : Held) → Lawful vars p h → is-clause vars (h .witness) ≡ true
@@ -54,7 +56,8 @@ module _ (vars : ℕ) where
   lawful-witness zero h l = let e = l .1 in rw e
   lawful-witness (suc zero) h l = let e = l .1 in rw e
   lawful-witness (suc (suc zero)) h l = and-left (is-clause vars (h .witness)) _ (l .1)
-  lawful-witness (suc (suc (suc p))) h l = absurd l
+  lawful-witness (suc (suc (suc zero))) h l = let e = l .1 in rw e
+  lawful-witness (suc (suc (suc (suc p)))) h l = absurd l
 
 pub clause-short : (v : ℕ) (c : List ℤ) → is-clause v c ≡ true → length c ≤ 256
 unfolding is-clause

@@ -1,8 +1,8 @@
--- The working table: rows [id, place, start, length, witness], of which the first `count` are held; the pool of literals, used below `top`;
+-- The working table: rows [id, place, start, length, witness], of which the first `count` are in use; the pool of literals, used below `top`;
 -- the ids of the stack from its bottom, of which the first `depth` are held. What it spells, and what it keeps.
 use mathlib.Core.Path.{_≡_}
 use mathlib.Core.Logic.{_⊎_}
-use mathlib.Core.Bool.{Bool, true}
+use mathlib.Core.Bool.{Bool, true, cond}
 use mathlib.Core.List.{List, [], _∷_, map, reverse}
 use Prim.Native.Nat.{ℕ, zero, suc, _+_, _<_, _≤_}
 use lib.Dec.{eqb}
@@ -27,7 +27,7 @@ row-at rows k = getD rows k []
 abbrev pub id-of : Row → ℕ
 id-of r = getD r 0 0
 
--- 0 irredundant, 1 learned, 2 stacked
+-- 0 irredundant, 1 learned, 2 stacked; 3 of a row whose clause is gone
 abbrev pub place-of : Row → ℕ
 place-of r = getD r 1 0
 
@@ -83,7 +83,7 @@ abbrev pub spelled : Table → List Row → List ℤ → List ℕ → State
 spelled t rows pool stack = record {
   vars = t .vars;
   highest = t .highest;
-  entries = length rows;
+  entries = t .entries;
   words = length pool;
   irredundant = clauses 0 pool (held-rows t rows);
   learned = clauses 1 pool (held-rows t rows);
@@ -108,12 +108,13 @@ Inside top r = start-of r + size r ≤ top
 abbrev pub Clear : Row → Row → Type 0
 Clear r x = ((size r ≡ 0) ⊎ (size x ≡ 0)) ⊎ (Inside (start-of x) r ⊎ Inside (start-of r) x)
 
--- "every clause and witness obeys Terms within V, only stacked clauses have witnesses"
+-- "every clause and witness obeys Terms within V, only stacked clauses have witnesses"; a row whose clause is gone has no words
 unfoldable pub Lawful : ℕ → ℕ → Held → Type 0
 Lawful vars zero h = (is-clause vars (h .lits) ≡ true) × (h .witness ≡ [])
 Lawful vars (suc zero) h = (is-clause vars (h .lits) ≡ true) × (h .witness ≡ [])
 Lawful vars (suc (suc zero)) h = (is-clause vars (h .lits) ≡ true) × (is-witness vars (h .lits) (h .witness) ≡ true)
-Lawful vars (suc (suc (suc p))) h = ⊥
+Lawful vars (suc (suc (suc zero))) h = (h .lits ≡ []) × (h .witness ≡ [])
+Lawful vars (suc (suc (suc (suc p)))) h = ⊥
 
 -- clauses by rising id
 abbrev pub settled : List Held → List Held
@@ -136,16 +137,25 @@ pub record Core (vars highest top words : ℕ) (rows : List Row) (pool : List �
   pub counted : words ≡ total size rows
   pub listed : Listed (clauses 2 pool rows) ids
 
--- the invariant: the lent sizes and counts, and what is held
+-- one for each row whose clause is gone
+abbrev pub gone-one : Row → ℕ
+gone-one r = cond (stands 3 r) 1 0
+
+-- the invariant: sizes and counts, and what is held. At most `entries` clauses are held; there may be more rows than that, so that the rows of
+-- clauses that are gone need not be closed up at once
 pub record Fit (t : Table) (rows : List Row) (pool : List ℤ) (stack : List ℕ) : Type 0 where
   pub vars-fit : (0 < t .vars) × (t .vars ≤ 2048)
   pub highest-fit : t .highest ≤ 2147483647
-  pub rows-lent : length rows ≤ 1024
+  pub entries-lent : t .entries ≤ 1024
+  pub rows-lent : length rows ≤ 2048
   pub pool-lent : length pool ≤ 8192
-  pub stack-lent : length rows ≤ length stack
+  pub stack-lent : t .entries ≤ length stack
+  pub entries-fit : t .entries ≤ length rows
   pub rows-fit : t .count ≤ length rows
+  pub held-fit : t .count ≤ t .entries + t .gone
   pub pool-fit : t .top ≤ length pool
   pub stack-fit : t .depth ≤ length stack
+  pub gone-fit : t .gone ≡ total gone-one (held-rows t rows)
   pub core : Core (t .vars) (t .highest) (t .top) (t .words) (held-rows t rows) pool (from-top t stack)
 
 -- ---- readers
@@ -154,7 +164,6 @@ pub record Fit (t : Table) (rows : List Row) (pool : List ℤ) (stack : List ℕ
 pub record Readable (rows : List Row) (pool : List ℤ) : Type 0 where
   pub rising : Rising rows
   pub positive : (k : ℕ) → k < length rows → 0 < id-of (row-at rows k)
-  pub placed : (k : ℕ) → k < length rows → place-of (row-at rows k) ≤ 2
   pub inside : (k : ℕ) → k < length rows → Inside (length pool) (row-at rows k)
   pub ranged : (k : ℕ) → k < length rows → all (in-range 2048) (clause-part pool (row-at rows k)) ≡ true
   pub witness-ranged : (k : ℕ) → k < length rows → all (in-range 2048) (witness-part pool (row-at rows k)) ≡ true

@@ -4,12 +4,14 @@ ghost use Prim.Native.Nat.{_<_};
 ghost use lib.ListN.{length};
 ghost use Rattle.table.specs.Spelled.{Below, Inside, Located, Rising, clause-part, id-of, place-of, row-at, witness-part};
 
-// What goes beside the lent tables: V, the highest id accepted, how many rows are held, how many words they hold,
-// how many ids are on the stack, and where the pool's unused tail starts.
+// What goes beside the lent tables: V, the highest id accepted, how many clauses may be held, how many rows are in use and of how many of them
+// the clause is gone, how many words are held, how many ids are on the stack, and where the pool's unused tail starts.
 pub struct Table {
     pub vars: u32,
     pub highest: u32,
+    pub entries: u32,
     pub count: u32,
+    pub gone: u32,
     pub words: u32,
     pub depth: u32,
     pub top: u32,
@@ -20,7 +22,7 @@ pub enum Found {
     Nothing,
 }
 
-// ---- readers, of the rows that are held: a caller passes &rows[..count]
+// ---- readers, of the rows in use: a caller passes &rows[..count]
 
 // A row up to which all ids are less, found in strides of 32 rows.
 fn stride(rows: &[[u32; 5]], id: u32) -> usize
