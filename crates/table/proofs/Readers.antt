@@ -14,7 +14,7 @@ use Rattle.rules.specs.Lists.{all, only}
 use Rattle.rules.specs.Terms.{in-range, distinct, is-clause, Held, State, has, fetch, everything, room}
 use Rattle.rules.specs.Answers.{need, free-entry, free-words}
 use Rattle.rules.specs.declared.Fault.the-variants.{NoEntry, NoWords}
-use Rattle.rules.proofs.Lists.{by-cases, true-false, and-left, and-right, all-at, all-of}
+use Rattle.rules.proofs.Lists.{by-cases, and-left, and-right, all-at, all-of}
 use Rattle.rules.proofs.Places.{words-of, length-without, room-append}
 use Rattle.slices.specs.Writes.{Among}
 use Rattle.slices.proofs.Slices.{in-reverse, among-of}
@@ -26,7 +26,7 @@ use Rattle.table.proofs.Facts.{all-index, all-unreverse, all-more}
 use Rattle.table.proofs.Places.{length-settled, room-settled}
 use Rattle.table.proofs.Finding as finding
 use Rattle.table.proofs.Stacked.{listed-has, listed-in, listed-fetch}
-use Rattle.table.proofs.Rows.{clause-length, witness-length, lawful-placed, lawful-clause, lawful-witness, clause-short}
+use Rattle.table.proofs.Rows.{clause-length, witness-length, lawful-placed, lawful-clause, lawful-witness, lawful-gone, clause-short}
 
 -- ---- each row stands in one of the three places, or is gone: a number of each, summed over the places, is summed over the rows
 
@@ -71,19 +71,11 @@ unfolding only
 gone-length pool [] = refl
 gone-length pool (r ∷ rows) = by-cases (stands 3 r) (λ e. rw e (omega (arith, gone-length pool rows))) (λ e. rw e (omega (arith, gone-length pool rows)))
 
-wordless : (vars p : ℕ) (h : Held) → eqb p 3 ≡ true → Lawful vars p h → words-of h ≡ 0
-unfolding Lawful
-wordless vars zero h e l = true-false refl (sym e)
-wordless vars (suc zero) h e l = true-false refl (sym e)
-wordless vars (suc (suc zero)) h e l = true-false refl (sym e)
-wordless vars (suc (suc (suc zero))) h e l = omega (arith, ap length (l .0), ap length (l .1))
-wordless vars (suc (suc (suc (suc p)))) h e l = absurd l
-
 gone-room : (vars : ℕ) (pool : List ℤ) {rows : List Row} → All (λ r. Lawful vars (place-of r) (held pool r)) rows → room (clauses 3 pool rows) ≡ 0
 unfolding only
 gone-room vars pool none = room-nil
 gone-room vars pool (both {x} {xs} l a) = by-cases (stands 3 x)
-    (λ e. rw e (omega (arith, room-cons (held pool x) (clauses 3 pool xs), wordless vars (place-of x) (held pool x) e l, gone-room vars pool a)))
+    (λ e. let w = lawful-gone vars (place-of x) (held pool x) e l in rw e (omega (arith, room-cons (held pool x) (clauses 3 pool xs), ap length (w .0), ap length (w .1), gone-room vars pool a)))
     (λ e. rw e (gone-room vars pool a))
 
 -- ---- literals within V are within 2,048

@@ -1,5 +1,5 @@
 -- Rows and pool as lists, split at the row that goes or comes: what the invariant needs of it.
-use mathlib.Core.Path.{_≡_, _∙_, ap}
+use mathlib.Core.Path.{_≡_, refl, sym, _∙_, ap}
 use mathlib.Core.Logic.{inl, inr, ⊎-elim}
 use mathlib.Core.Bool.{true, false}
 use mathlib.Core.List.{List, [], _∷_, _++_, map, map-append}
@@ -8,11 +8,11 @@ use native.Mathlib.Omega.{arith}
 use lib.IntN.{ℤ}
 use lib.ListN.{length, take, drop, length-drop}
 use lib.Seq.{length-take-le}
-use lib.Dec.{leb}
+use lib.Dec.{eqb, leb}
 use borrow.Author.Tests.{leb-true}
 use Rattle.rules.specs.Lists.{all}
 use Rattle.rules.specs.Terms.{Held, is-clause, is-witness, distinct}
-use Rattle.rules.proofs.Lists.{and-left}
+use Rattle.rules.proofs.Lists.{true-false, and-left}
 use Rattle.table.specs.Facts.{All}
 use Rattle.table.specs.Spelled.{Row, id-of, place-of, start-of, length-of, witness-of, size, part, clause-part, witness-part, held, stands, Known, Inside, Clear, Lawful, Listed, Core, Entry, entry}
 use Rattle.table.proofs.Facts.{all-here, all-left, all-right, all-join, all-cut, all-put, all-more, all-map, all-unmap, map-same, pairs-before, pairs-after, pairs-cut, pairs-put, total-cut}
@@ -58,6 +58,15 @@ module _ (vars : ℕ) where
   lawful-witness (suc (suc zero)) h l = and-left (is-clause vars (h .witness)) _ (l .1)
   lawful-witness (suc (suc (suc zero))) h l = let e = l .1 in rw e
   lawful-witness (suc (suc (suc (suc p)))) h l = absurd l
+
+  -- where it is gone, it has no words
+  pub lawful-gone : (p : ℕ) (h : Held) → eqb p 3 ≡ true → Lawful vars p h → (h .lits ≡ []) × (h .witness ≡ [])
+  unfolding Lawful
+  lawful-gone zero h e l = true-false refl (sym e)
+  lawful-gone (suc zero) h e l = true-false refl (sym e)
+  lawful-gone (suc (suc zero)) h e l = true-false refl (sym e)
+  lawful-gone (suc (suc (suc zero))) h e l = l
+  lawful-gone (suc (suc (suc (suc p)))) h e l = absurd l
 
 pub clause-short : (v : ℕ) (c : List ℤ) → is-clause v c ≡ true → length c ≤ 256
 unfolding is-clause

@@ -11,20 +11,20 @@ use lib.Seq.{length-take-le, getD-take, split-at, append-snoc}
 use borrow.Author.Tests.{eq-eqb}
 use Rattle.rules.specs.Terms.{is-clause}
 use Rattle.rules.specs.Frames.{Frame, ADD, LEARN, FORGET, PROMOTE, DROP, RESTORE, plain, next}
-use Rattle.table.specs.Facts.{All, none}
-use Rattle.table.specs.Spelled.{Row, row-at, id-of, place-of, start-of, length-of, witness-of, size, part, clause-part, witness-part, held, stands, held-rows, from-top, spelled, Inside, Lawful, Listed, Core, Fit, Entry, entry}
+use Rattle.table.specs.Facts.{All, none, total}
+use Rattle.table.specs.Spelled.{Row, row-at, id-of, place-of, start-of, length-of, witness-of, size, part, clause-part, witness-part, held, stands, held-rows, from-top, spelled, Inside, Lawful, Listed, Core, gone-one, Fit, Entry, entry}
 use Rattle.writes.specs.Moved.{Moved, New, RowHeld}
 use Rattle.slices.specs.Writes.{written, closed}
 use Rattle.table.specs.declared.Table.{Table}
-use Rattle.table.proofs.Facts.{all-here, all-more, all-map, all-unmap, total-cut}
+use Rattle.table.proofs.Facts.{all-here, all-more, all-map, all-unmap, total-join, total-cut}
 use Rattle.slices.proofs.Slices.{take-next, take-swap, take-closed, length-closed, written-before, written-part, length-written}
 use Rattle.table.proofs.Entries.{entry-of, spell, clauses-spell, spell-unseen}
 use Rattle.table.proofs.Stacked.{listed-leave}
 use Rattle.writes.proofs.Changes.{state-of, added, learnt, forgotten, dropped, promoted, restored}
 use Rattle.table.proofs.Rows.{lawful-clause, clause-length, clause-short, entries-split, earlier, later, others-clear, own, listed-here, plain-row, listed-cut, core-cut, clear-tail, clear-less, Comes, entries-put, core-put}
-use Rattle.table.proofs.Readers.{row-inside}
+use Rattle.table.proofs.Readers.{row-inside, gone-most}
 
-pub spelled-is : (t : Table) (rows : List Row) (pool : List ℤ) (stack : List ℕ) → spelled t rows pool stack ≡ state-of (t .vars) (t .highest) (length rows) (length pool) (map (entry pool) (held-rows t rows)) (from-top t stack)
+pub spelled-is : (t : Table) (rows : List Row) (pool : List ℤ) (stack : List ℕ) → spelled t rows pool stack ≡ state-of (t .vars) (t .highest) (t .entries) (length pool) (map (entry pool) (held-rows t rows)) (from-top t stack)
 spelled-is t rows pool stack =
     let a = clauses-spell 0 pool (held-rows t rows) in
     let b = clauses-spell 1 pool (held-rows t rows) in
@@ -33,33 +33,39 @@ spelled-is t rows pool stack =
 
 -- the table with a clause of n words more
 abbrev pub appended : Table → ℕ → ℕ → Table
-appended t id n = record { vars = t .vars; highest = id; count = t .count + 1; words = t .words + n; depth = t .depth; top = t .top + n }
+appended t id n = record { vars = t .vars; highest = id; entries = t .entries; count = t .count + 1; gone = t .gone; words = t .words + n; depth = t .depth; top = t .top + n }
 
 module _ {t : Table} {rows : List Row} {pool : List ℤ} {stack : List ℕ} (f : Fit t rows pool stack) where
-  -- the lent slices are as long as they were, and V is what it was
-  pub refit : {t′ : Table} {rows′ : List Row} {pool′ : List ℤ} {stack′ : List ℕ} → t′ .vars ≡ t .vars → t′ .highest ≤ 2147483647 → length rows′ ≡ length rows → length pool′ ≡ length pool → length stack′ ≡ length stack →
-      t′ .count ≤ length rows → t′ .top ≤ length pool → t′ .depth ≤ length stack →
+  -- the lent slices are as long as they were, and V and the number of entries are what they were
+  pub refit : {t′ : Table} {rows′ : List Row} {pool′ : List ℤ} {stack′ : List ℕ} → t′ .vars ≡ t .vars → t′ .entries ≡ t .entries → t′ .highest ≤ 2147483647 → length rows′ ≡ length rows → length pool′ ≡ length pool → length stack′ ≡ length stack →
+      t′ .count ≤ length rows → t′ .count ≤ t .entries + t′ .gone → t′ .top ≤ length pool → t′ .depth ≤ length stack → t′ .gone ≡ total gone-one (held-rows t′ rows′) →
       Core (t .vars) (t′ .highest) (t′ .top) (t′ .words) (held-rows t′ rows′) pool′ (from-top t′ stack′) → Fit t′ rows′ pool′ stack′
-  refit e i a b c x y z k =
+  refit e d i a b c x m y z n k =
       let v = f .vars-fit in
+      let l = f .entries-lent in
       let p = f .rows-lent in
       let q = f .pool-lent in
       let r = f .stack-lent in
+      let o = f .entries-fit in
       record {
         vars-fit = (omega arith, omega arith);
         highest-fit = i;
+        entries-lent = omega arith;
         rows-lent = omega arith;
         pool-lent = omega arith;
         stack-lent = omega arith;
+        entries-fit = omega arith;
         rows-fit = omega arith;
+        held-fit = omega arith;
         pool-fit = omega arith;
         stack-fit = omega arith;
+        gone-fit = n;
         core = rw e k;
       }
 
-  pub moved-by : {t′ : Table} {rows′ : List Row} {pool′ : List ℤ} {stack′ : List ℕ} {g : Frame} → Fit t′ rows′ pool′ stack′ → length rows′ ≡ length rows → length pool′ ≡ length pool →
-      state-of (t′ .vars) (t′ .highest) (length rows) (length pool) (map (entry pool′) (held-rows t′ rows′)) (from-top t′ stack′)
-      ≡ next (state-of (t .vars) (t .highest) (length rows) (length pool) (map (entry pool) (held-rows t rows)) (from-top t stack)) g →
+  pub moved-by : {t′ : Table} {rows′ : List Row} {pool′ : List ℤ} {stack′ : List ℕ} {g : Frame} → Fit t′ rows′ pool′ stack′ → t′ .entries ≡ t .entries → length pool′ ≡ length pool →
+      state-of (t′ .vars) (t′ .highest) (t .entries) (length pool) (map (entry pool′) (held-rows t′ rows′)) (from-top t′ stack′)
+      ≡ next (state-of (t .vars) (t .highest) (t .entries) (length pool) (map (entry pool) (held-rows t rows)) (from-top t stack)) g →
       Moved t rows pool stack t′ rows′ pool′ stack′ g
   moved-by {t′} {rows′} {pool′} {stack′} {g} k a b e = record { fit = k; state = spelled-is t′ rows′ pool′ stack′ ∙ rw (a, b) e ∙ ap (λ s. next s g) (sym (spelled-is t rows pool stack)) }
 
@@ -68,7 +74,7 @@ module _ {t : Table} {rows : List Row} {pool : List ℤ} {stack : List ℕ} (f :
 
   -- ---- ADD and LEARN: the literals at the tail, a row behind the last
 
-  module _ (id : ℕ) (lits : List ℤ) (room : t .count < length rows) (fits : t .top + length lits ≤ length pool) (new : New t id) (ok : is-clause (t .vars) lits ≡ true) where
+  module _ (id : ℕ) (lits : List ℤ) (room : t .count < length rows) (spare : t .count < t .entries + t .gone) (fits : t .top + length lits ≤ length pool) (new : New t id) (ok : is-clause (t .vars) lits ≡ true) where
     abbrev new-row : ℕ → Row
     new-row p = id ∷ p ∷ t .top ∷ length lits ∷ 0 ∷ []
 
@@ -107,33 +113,37 @@ module _ {t : Table} {rows : List Row} {pool : List ℤ} {stack : List ℕ} (f :
         let e = clauses-spell 2 pool hr in
         rw (u, n, ← e) (f .core .listed)
 
-    module _ (p : ℕ) (l : Lawful (t .vars) p (plain id lits)) (s : eqb p 2 ≡ false) where
+    module _ (p : ℕ) (l : Lawful (t .vars) p (plain id lits)) (s : eqb p 2 ≡ false) (n : eqb p 3 ≡ false) where
       abbrev rows′ : List Row
       rows′ = set rows (t .count) (new-row p)
+
+      held-one : gone-one (new-row p) ≡ 0
+      held-one = rw n
 
       append-fit : Fit (appended t id (length lits)) rows′ pool′ stack
       append-fit =
           let e = take-next rows (t .count) (new-row p) room in
-          refit refl (new .1) (length-set rows (t .count) (new-row p)) (length-written pool (t .top) lits (f .pool-fit) fits) refl (omega arith) fits (f .stack-fit)
+          refit refl refl (new .1) (length-set rows (t .count) (new-row p)) (length-written pool (t .top) lits (f .pool-fit) fits) refl (omega arith) (omega arith) fits (f .stack-fit)
+          (omega (arith, f .gone-fit, ap (total gone-one) e, total-join gone-one hr (new-row p ∷ []), held-one))
           (rw e (core-put hr [] all-rows (comes p l) (t .words + length lits) _ (omega arith) (unstacked p s)))
 
-      append-moves : {g : Frame} → state-of (t .vars) id (length rows) (length pool) (map (entry pool) hr ++ entry-of p id lits [] ∷ []) (from-top t stack)
-          ≡ next (state-of (t .vars) (t .highest) (length rows) (length pool) (map (entry pool) hr ++ []) (from-top t stack)) g →
+      append-moves : {g : Frame} → state-of (t .vars) id (t .entries) (length pool) (map (entry pool) hr ++ entry-of p id lits [] ∷ []) (from-top t stack)
+          ≡ next (state-of (t .vars) (t .highest) (t .entries) (length pool) (map (entry pool) hr ++ []) (from-top t stack)) g →
           Moved t rows pool stack (appended t id (length lits)) rows′ pool′ stack g
       append-moves e =
           let h = take-next rows (t .count) (new-row p) room in
           let x = entries-put hr [] all-rows (comes p l) in
           let y = new-entry p in
           let n = append-nil (map (entry pool) hr) in
-          moved-by append-fit (length-set rows (t .count) (new-row p)) (length-written pool (t .top) lits (f .pool-fit) fits) (rw (h, x, y) (rw n at e))
+          moved-by append-fit refl (length-written pool (t .top) lits (f .pool-fit) fits) (rw (h, x, y) (rw n at e))
 
     pub add-moves : Moved t rows pool stack (appended t id (length lits)) (set rows (t .count) (new-row 0)) pool′ stack (ADD id lits)
     unfolding Lawful
-    add-moves = append-moves 0 (ok, refl) refl (added (t .vars) (t .highest) (length rows) (length pool) (map (entry pool) hr) [] (from-top t stack) id lits (all-map (entry pool) hr below) none)
+    add-moves = append-moves 0 (ok, refl) refl refl (added (t .vars) (t .highest) (t .entries) (length pool) (map (entry pool) hr) [] (from-top t stack) id lits (all-map (entry pool) hr below) none)
 
     pub learn-moves : (hints : List ℤ) → Moved t rows pool stack (appended t id (length lits)) (set rows (t .count) (new-row 1)) pool′ stack (LEARN id lits hints)
     unfolding Lawful
-    learn-moves hints = append-moves 1 (ok, refl) refl (learnt (t .vars) (t .highest) (length rows) (length pool) (map (entry pool) hr) [] (from-top t stack) id lits (all-map (entry pool) hr below) none hints)
+    learn-moves hints = append-moves 1 (ok, refl) refl refl (learnt (t .vars) (t .highest) (t .entries) (length pool) (map (entry pool) hr) [] (from-top t stack) id lits (all-map (entry pool) hr below) none hints)
 
   -- ---- the row at `at`, and those before and behind it
 
@@ -172,48 +182,20 @@ module _ {t : Table} {rows : List Row} {pool : List ℤ} {stack : List ℕ} (f :
     pub entries-at : map (entry pool) hr ≡ es ++ entry pool r ∷ fs
     entries-at = ap (map (entry pool)) split ∙ entries-split us r bs core-at
 
-    -- ---- FORGET and DROP: the row goes
+    -- how many rows are gone when the row is another one
+    pub gone-swap : (r′ : Row) → total gone-one (take (t .count) (set rows at r′)) + gone-one r ≡ t .gone + gone-one r′
+    gone-swap r′ = omega (arith, f .gone-fit, ap (total gone-one) split, total-cut gone-one us r bs, ap (total gone-one) (take-swap rows at (t .count) r′ h (f .rows-fit)), total-cut gone-one us r′ bs)
 
-    abbrev removed : Table
-    removed = record { vars = t .vars; highest = t .highest; count = t .count - 1; words = t .words - size r; depth = t .depth; top = t .top }
+    -- ---- the row anew, in the place p, with the first n of its literals and no witness: what all but ADD and LEARN do to it
 
-    module _ (p : ℕ) (q : p ≤ 1) (e : place-of r ≡ p) where
-      less-rows : length (closed rows at (t .count - 1)) ≡ length rows
-      less-rows = let k = f .rows-fit in length-closed rows at (t .count - 1) (omega arith) (omega arith)
-
-      remove-fit : stands 2 r ≡ false → Fit removed (closed rows at (t .count - 1)) pool stack
-      remove-fit s =
-          let c = take-closed rows at (t .count) h (f .rows-fit) in
-          let k = f .rows-fit in
-          refit refl (f .highest-fit) less-rows refl refl (omega arith) (f .pool-fit) (f .stack-fit) (rw c (core-cut us r bs core-at (t .words - size r) _ (omega (arith, size-within)) (listed-cut us r bs core-at s)))
-
-      remove-moves : {g : Frame} → stands 2 r ≡ false → state-of (t .vars) (t .highest) (length rows) (length pool) (es ++ fs) (from-top t stack)
-          ≡ next (state-of (t .vars) (t .highest) (length rows) (length pool) (es ++ entry-of p (id-of r) (clause-part pool r) [] ∷ fs) (from-top t stack)) g →
-          Moved t rows pool stack removed (closed rows at (t .count - 1)) pool stack g
-      remove-moves s g =
-          let c = take-closed rows at (t .count) h (f .rows-fit) in
-          let m = map-append (entry pool) us bs in
-          let x = entries-at in
-          let y = plain-row us r bs core-at p q e in
-          moved-by (remove-fit s) less-rows refl (rw (c, m, x, y) g)
-
-    pub forget-moves : place-of r ≡ 1 → Moved t rows pool stack removed (closed rows at (t .count - 1)) pool stack (FORGET (id-of r))
-    forget-moves e = remove-moves 1 (omega arith) e (rw e) (forgotten (t .vars) (t .highest) (length rows) (length pool) es fs (from-top t stack) (id-of r) (clause-part pool r) (earlier us r bs core-at) (later us r bs core-at))
-
-    pub drop-moves : (hints : List ℤ) → place-of r ≡ 0 → Moved t rows pool stack removed (closed rows at (t .count - 1)) pool stack (DROP (id-of r) hints)
-    drop-moves hints e = remove-moves 0 (omega arith) e (rw e) (dropped (t .vars) (t .highest) (length rows) (length pool) es fs (from-top t stack) (id-of r) (clause-part pool r) (earlier us r bs core-at) (later us r bs core-at) hints)
-
-    -- ---- the row anew, irredundant, with the first n of its literals: PROMOTE, RESTORE, and the first half of WEAKEN
-
-    module _ (n : ℕ) (shorter : n ≤ length-of r) (ok : is-clause (t .vars) (part pool (start-of r) n) ≡ true) (ids : List ℕ) (l : Listed (spell 2 (es ++ fs)) ids) where
-      abbrev irredundant-row : Row
-      irredundant-row = id-of r ∷ 0 ∷ start-of r ∷ n ∷ 0 ∷ []
+    module _ (p n : ℕ) (shorter : n ≤ length-of r) (ok : Lawful (t .vars) p (plain (id-of r) (part pool (start-of r) n))) (unstacked : eqb p 2 ≡ false) (ids : List ℕ) (l : Listed (spell 2 (es ++ fs)) ids) where
+      abbrev row-anew : Row
+      row-anew = id-of r ∷ p ∷ start-of r ∷ n ∷ 0 ∷ []
 
       others : Core (t .vars) (t .highest) (t .top) (t .words - size r) (us ++ bs) pool ids
       others = core-cut us r bs core-at (t .words - size r) ids (omega (arith, size-within)) l
 
-      settles : Comes (t .vars) (t .highest) (t .top) us bs pool irredundant-row (t .highest) (t .top) pool
-      unfolding Lawful
+      settles : Comes (t .vars) (t .highest) (t .top) us bs pool row-anew (t .highest) (t .top) pool
       settles = record {
         behind = all-unmap (entry pool) us (earlier us r bs core-at);
         ahead-of = all-unmap (entry pool) bs (later us r bs core-at);
@@ -221,19 +203,59 @@ module _ {t : Table} {rows : List Row} {pool : List ℤ} {stack : List ℕ} (f :
         known = all-here us r bs (core-at .known);
         grows = omega arith;
         inside = omega (arith, ends);
-        clear = clear-less r irredundant-row refl (omega arith) (others-clear us r bs core-at);
+        clear = clear-less r row-anew refl (omega arith) (others-clear us r bs core-at);
         same = refl;
-        lawful = (ok, refl);
+        lawful = ok;
       }
 
-      pub settle-core : (words′ : ℕ) → words′ + size r ≡ t .words + n → Core (t .vars) (t .highest) (t .top) words′ (take (t .count) (set rows at irredundant-row)) pool ids
+      pub settle-core : (words′ : ℕ) → words′ + size r ≡ t .words + n → Core (t .vars) (t .highest) (t .top) words′ (take (t .count) (set rows at row-anew)) pool ids
       settle-core words′ e =
-          let h′ = take-swap rows at (t .count) irredundant-row h (f .rows-fit) in
-          let u = spell-unseen 2 (entry pool irredundant-row) refl es fs in
+          let h′ = take-swap rows at (t .count) row-anew h (f .rows-fit) in
+          let u = spell-unseen 2 (entry pool row-anew) unstacked es fs in
           rw h′ (core-put us bs others settles words′ ids (omega (arith, size-within)) (rw u l))
 
-      pub settle-entries : map (entry pool) (take (t .count) (set rows at irredundant-row)) ≡ es ++ entry-of 0 (id-of r) (part pool (start-of r) n) [] ∷ fs
-      settle-entries = ap (map (entry pool)) (take-swap rows at (t .count) irredundant-row h (f .rows-fit)) ∙ entries-put us bs others settles
+      pub settle-entries : map (entry pool) (take (t .count) (set rows at row-anew)) ≡ es ++ entry-of p (id-of r) (part pool (start-of r) n) [] ∷ fs
+      settle-entries = ap (map (entry pool)) (take-swap rows at (t .count) row-anew h (f .rows-fit)) ∙ entries-put us bs others settles
+
+    -- ---- FORGET and DROP: the clause goes, the row stays
+
+    abbrev removed : Table
+    removed = record { vars = t .vars; highest = t .highest; entries = t .entries; count = t .count; gone = t .gone + 1; words = t .words - size r; depth = t .depth; top = t .top }
+
+    abbrev gone-row : Row
+    gone-row = id-of r ∷ 3 ∷ start-of r ∷ 0 ∷ 0 ∷ []
+
+    -- no place has it
+    gone-spells : (ids : List ℕ) → state-of (t .vars) (t .highest) (t .entries) (length pool) (es ++ entry-of 3 (id-of r) [] [] ∷ fs) ids ≡ state-of (t .vars) (t .highest) (t .entries) (length pool) (es ++ fs) ids
+    gone-spells ids =
+        let a = spell-unseen 0 (entry-of 3 (id-of r) [] []) refl es fs in
+        let b = spell-unseen 1 (entry-of 3 (id-of r) [] []) refl es fs in
+        let c = spell-unseen 2 (entry-of 3 (id-of r) [] []) refl es fs in
+        rw (a, b, c)
+
+    module _ (p : ℕ) (q : p ≤ 1) (e : place-of r ≡ p) (s : stands 2 r ≡ false) (held-one : gone-one r ≡ 0) where
+      remove-fit : Fit removed (set rows at gone-row) pool stack
+      unfolding Lawful
+      remove-fit =
+          refit refl refl (f .highest-fit) (length-set rows at gone-row) refl refl (f .rows-fit) (omega (arith, f .held-fit)) (f .pool-fit) (f .stack-fit) (omega (arith, gone-swap gone-row))
+          (settle-core 3 0 (omega arith) (refl, refl) refl (from-top t stack) (listed-cut us r bs core-at s) _ (omega (arith, size-within)))
+
+      remove-moves : {g : Frame} → state-of (t .vars) (t .highest) (t .entries) (length pool) (es ++ fs) (from-top t stack)
+          ≡ next (state-of (t .vars) (t .highest) (t .entries) (length pool) (es ++ entry-of p (id-of r) (clause-part pool r) [] ∷ fs) (from-top t stack)) g →
+          Moved t rows pool stack removed (set rows at gone-row) pool stack g
+      unfolding Lawful
+      remove-moves g =
+          let m = settle-entries 3 0 (omega arith) (refl, refl) refl (from-top t stack) (listed-cut us r bs core-at s) in
+          let x = entries-at in
+          let y = plain-row us r bs core-at p q e in
+          let z = gone-spells (from-top t stack) in
+          moved-by remove-fit refl refl (rw (m, z, x, y) g)
+
+    pub forget-moves : place-of r ≡ 1 → Moved t rows pool stack removed (set rows at gone-row) pool stack (FORGET (id-of r))
+    forget-moves e = remove-moves 1 (omega arith) e (rw e) (rw e) (forgotten (t .vars) (t .highest) (t .entries) (length pool) es fs (from-top t stack) (id-of r) (clause-part pool r) (earlier us r bs core-at) (later us r bs core-at))
+
+    pub drop-moves : (hints : List ℤ) → place-of r ≡ 0 → Moved t rows pool stack removed (set rows at gone-row) pool stack (DROP (id-of r) hints)
+    drop-moves hints e = remove-moves 0 (omega arith) e (rw e) (rw e) (dropped (t .vars) (t .highest) (t .entries) (length pool) es fs (from-top t stack) (id-of r) (clause-part pool r) (earlier us r bs core-at) (later us r bs core-at) hints)
 
     abbrev settled-row : Row
     settled-row = id-of r ∷ 0 ∷ start-of r ∷ length-of r ∷ 0 ∷ []
@@ -241,9 +263,14 @@ module _ {t : Table} {rows : List Row} {pool : List ℤ} {stack : List ℕ} (f :
     pub own-clause : is-clause (t .vars) (clause-part pool r) ≡ true
     own-clause = lawful-clause (t .vars) (place-of r) (held pool r) (own us r bs core-at)
 
+    -- with its own literals the clause may settle among the irredundant ones
+    own-settled : Lawful (t .vars) 0 (plain (id-of r) (clause-part pool r))
+    unfolding Lawful
+    own-settled = (own-clause, refl)
+
     -- what the code asks of the row
     pub row-held : RowHeld t rows at
-    row-held = (h, f .rows-fit, size-within)
+    row-held = (h, f .rows-fit, size-within, omega (arith, gone-most f, f .rows-fit, f .rows-lent))
 
     pub row-short : length-of r ≤ 256
     row-short = omega (arith, clause-length pool r (row-inside f at h), clause-short (t .vars) (clause-part pool r) own-clause)
@@ -251,18 +278,19 @@ module _ {t : Table} {rows : List Row} {pool : List ℤ} {stack : List ℕ} (f :
     -- ---- PROMOTE
 
     pub promote-moves : place-of r ≡ 1 →
-        Moved t rows pool stack (record { vars = t .vars; highest = t .highest; count = t .count; words = t .words - witness-of r; depth = t .depth; top = t .top }) (set rows at settled-row) pool stack (PROMOTE (id-of r))
+        Moved t rows pool stack (record { vars = t .vars; highest = t .highest; entries = t .entries; count = t .count; gone = t .gone; words = t .words - witness-of r; depth = t .depth; top = t .top }) (set rows at settled-row) pool stack (PROMOTE (id-of r))
     promote-moves e =
         let l = listed-cut us r bs core-at (rw e) in
         let n = length-set rows at settled-row in
-        let x = settle-entries (length-of r) (omega arith) own-clause (from-top t stack) l in
+        let x = settle-entries 0 (length-of r) (omega arith) own-settled refl (from-top t stack) l in
         let y = entries-at in
         let z = plain-row us r bs core-at 1 (omega arith) e in
+        let held-one : gone-one r ≡ 0 = rw e in
         moved-by
-        (refit refl (f .highest-fit) n refl refl (f .rows-fit) (f .pool-fit) (f .stack-fit) (settle-core (length-of r) (omega arith) own-clause (from-top t stack) l _ (omega (arith, size-within))))
-        n
+        (refit refl refl (f .highest-fit) n refl refl (f .rows-fit) (f .held-fit) (f .pool-fit) (f .stack-fit) (omega (arith, gone-swap settled-row, held-one)) (settle-core 0 (length-of r) (omega arith) own-settled refl (from-top t stack) l _ (omega (arith, size-within))))
         refl
-        (rw (x, y, z) (promoted (t .vars) (t .highest) (length rows) (length pool) es fs (from-top t stack) (id-of r) (clause-part pool r) (earlier us r bs core-at) (later us r bs core-at)))
+        refl
+        (rw (x, y, z) (promoted (t .vars) (t .highest) (t .entries) (length pool) es fs (from-top t stack) (id-of r) (clause-part pool r) (earlier us r bs core-at) (later us r bs core-at)))
 
     -- ---- RESTORE: and the id, at `from` in the stack's list, leaves it
 
@@ -290,7 +318,7 @@ module _ {t : Table} {rows : List Row} {pool : List ℤ} {stack : List ℕ} (f :
       left = listed-leave es fs (entry pool r) (eq-eqb (place-of r) 2 e) (earlier us r bs core-at) (later us r bs core-at) xs ys stacked
 
       pub restore-moves :
-          Moved t rows pool stack (record { vars = t .vars; highest = t .highest; count = t .count; words = t .words - witness-of r; depth = t .depth - 1; top = t .top })
+          Moved t rows pool stack (record { vars = t .vars; highest = t .highest; entries = t .entries; count = t .count; gone = t .gone; words = t .words - witness-of r; depth = t .depth - 1; top = t .top })
           (set rows at settled-row) pool (closed stack from (t .depth - 1)) (RESTORE (id-of r))
       restore-moves =
           let d = f .stack-fit in
@@ -298,11 +326,12 @@ module _ {t : Table} {rows : List Row} {pool : List ℤ} {stack : List ℕ} (f :
           let m = length-closed stack from (t .depth - 1) (omega arith) (omega arith) in
           let o = ids-left in
           let i = ids-are in
-          let x = settle-entries (length-of r) (omega arith) own-clause (xs ++ ys) left in
+          let x = settle-entries 0 (length-of r) (omega arith) own-settled refl (xs ++ ys) left in
           let y = entries-at in
+          let held-one : gone-one r ≡ 0 = rw e in
           moved-by
-          (refit refl (f .highest-fit) n refl m (f .rows-fit) (f .pool-fit) (omega arith) (rw o (settle-core (length-of r) (omega arith) own-clause (xs ++ ys) left _ (omega (arith, size-within)))))
-          n
+          (refit refl refl (f .highest-fit) n refl m (f .rows-fit) (f .held-fit) (f .pool-fit) (omega arith) (omega (arith, gone-swap settled-row, held-one)) (rw o (settle-core 0 (length-of r) (omega arith) own-settled refl (xs ++ ys) left _ (omega (arith, size-within)))))
+          refl
           refl
           (rw (o, i, x, y, e)
-          (restored (t .vars) (t .highest) (length rows) (length pool) es fs (from-top t stack) (id-of r) (clause-part pool r) (earlier us r bs core-at) (later us r bs core-at) (witness-part pool r) xs ys (rw e at stacked)))
+          (restored (t .vars) (t .highest) (t .entries) (length pool) es fs (from-top t stack) (id-of r) (clause-part pool r) (earlier us r bs core-at) (later us r bs core-at) (witness-part pool r) xs ys (rw e at stacked)))

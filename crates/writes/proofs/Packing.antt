@@ -12,7 +12,7 @@ use lib.Seq.{take-append-le, length-take-le, take-suc, drop-cons, split-at, getD
 use Rattle.rules.specs.Terms.{State, is-clause}
 use Rattle.rules.specs.Frames.{Frame, ADD, LEARN, next}
 use Rattle.table.specs.Facts.{All, none, both, Pairs, alone, ahead, total}
-use Rattle.table.specs.Spelled.{Row, row-at, id-of, start-of, length-of, witness-of, size, part, clause-part, witness-part, held-rows, Rising, Inside, Clear, Fit, Entry, entry}
+use Rattle.table.specs.Spelled.{Row, row-at, id-of, start-of, length-of, witness-of, size, part, clause-part, witness-part, held-rows, Rising, Inside, Clear, gone-one, Fit, Entry, entry}
 use Rattle.writes.specs.Moved.{Moved, New}
 use Rattle.slices.specs.Writes.{over, written}
 use Rattle.writes.specs.Room.{pointed, packed, joined, Gathered, Roomy}
@@ -42,6 +42,10 @@ length-packed at (r ∷ rows) = ap suc (length-packed (at + size r) rows)
 total-packed : (at : ℕ) (rows : List Row) → total size (packed at rows) ≡ total size rows
 total-packed at [] = refl
 total-packed at (r ∷ rows) = let i = total-packed (at + size r) rows in rw i
+
+gone-packed : (at : ℕ) (rows : List Row) → total gone-one (packed at rows) ≡ total gone-one rows
+gone-packed at [] = refl
+gone-packed at (r ∷ rows) = let i = gone-packed (at + size r) rows in rw i
 
 -- a fact of ids
 ids-packed : (P : ℕ → Type 0) (at : ℕ) {rows : List Row} → All (λ r. P (id-of r)) rows → All (λ r. P (id-of r)) (packed at rows)
@@ -173,7 +177,7 @@ module _ {t : Table} {rows₀ : List Row} {pool : List ℤ} {stack : List ℕ} (
 
   module _ {at : ℕ} {rows : List Row} {buffer : List ℤ} (g : Gathered rows₀ pool (t .count) at rows buffer) (fits : at ≤ length pool) (full : at ≤ length buffer) where
     abbrev compacted : Table
-    compacted = record { vars = t .vars; highest = t .highest; count = t .count; words = t .words; depth = t .depth; top = at }
+    compacted = record { vars = t .vars; highest = t .highest; entries = t .entries; count = t .count; gone = t .gone; words = t .words; depth = t .depth; top = at }
 
     abbrev pool′ : List ℤ
     pool′ = over pool (take at buffer)
@@ -202,7 +206,7 @@ module _ {t : Table} {rows₀ : List Row} {pool : List ℤ} {stack : List ℕ} (
         let e = rows-after in
         let s = entries-after in
         let c = f .core in
-        refit f refl (f .highest-fit) same-rows same-pool refl (f .rows-fit) fits (f .stack-fit) (record {
+        refit f refl refl (f .highest-fit) same-rows same-pool refl (f .rows-fit) (f .held-fit) fits (f .stack-fit) (rw e (f .gone-fit ∙ sym (gone-packed 0 (held-rows t rows₀)))) (record {
           rising = rw e (rising-packed 0 (c .rising));
           known = rw e (ids-packed (λ i. (0 < i) × (i ≤ t .highest)) 0 (c .known));
           inside = rw e (inside-packed 0 at (held-rows t rows₀) (omega (arith, g .at-is)));
@@ -219,9 +223,11 @@ module _ {t : Table} {rows₀ : List Row} {pool : List ℤ} {stack : List ℕ} (
         let s = entries-after in
         record {
           fit = compact-fit;
-          same = spelled-is compacted rows pool′ stack ∙ rw (p, q, s) (sym (spelled-is t rows₀ pool stack));
+          same = spelled-is compacted rows pool′ stack ∙ rw (q, s) (sym (spelled-is t rows₀ pool stack));
           entries = s;
           count = refl;
+          gone = refl;
+          long = p;
           words = refl;
           depth = refl;
           room = omega (arith, g .at-is, f .core .counted);
@@ -235,12 +241,12 @@ roomy-is a b c r = rw (a, b, c) at r
 
 module _ {t : Table} {rows : List Row} {pool : List ℤ} {stack : List ℕ} {t′ : Table} {rows′ : List Row} {pool′ : List ℤ} {n : ℕ} (m : Roomy t rows pool stack t′ rows′ pool′ n) where
   pub roomy-lengths : (length rows′ ≡ length rows) × (length pool′ ≡ length pool)
-  roomy-lengths = (ap (λ (s : State). s .entries) (m .same), ap (λ (s : State). s .words) (m .same))
+  roomy-lengths = (m .long, ap (λ (s : State). s .words) (m .same))
 
   moved-after : {t″ : Table} {rows″ : List Row} {pool″ : List ℤ} {g : Frame} → Moved t′ rows′ pool′ stack t″ rows″ pool″ stack g → Moved t rows pool stack t″ rows″ pool″ stack g
   moved-after {g} k = record { fit = k .fit; state = k .state ∙ ap (λ s. next s g) (m .same) }
 
-  module _ (id : ℕ) (lits : List ℤ) (room : t′ .count < length rows′) (fits : t′ .top + length lits ≤ length pool′) (new : New t id) (ok : is-clause (t .vars) lits ≡ true) where
+  module _ (id : ℕ) (lits : List ℤ) (room : t′ .count < length rows′) (spare : t′ .count < t′ .entries + t′ .gone) (fits : t′ .top + length lits ≤ length pool′) (new : New t id) (ok : is-clause (t .vars) lits ≡ true) where
     still-new : New t′ id
     still-new = (omega (arith, new .0, ap (λ (s : State). s .highest) (m .same)), new .1)
 
@@ -248,7 +254,7 @@ module _ {t : Table} {rows : List Row} {pool : List ℤ} {stack : List ℕ} {t�
     still-ok = let v = ap (λ (s : State). s .vars) (m .same) in rw v ok
 
     pub add-after : Moved t rows pool stack (appended t′ id (length lits)) (set rows′ (t′ .count) (id ∷ 0 ∷ t′ .top ∷ length lits ∷ 0 ∷ [])) (written pool′ (t′ .top) lits) stack (ADD id lits)
-    add-after = moved-after (add-moves (m .fit) id lits room fits still-new still-ok)
+    add-after = moved-after (add-moves (m .fit) id lits room spare fits still-new still-ok)
 
     pub learn-after : (hints : List ℤ) → Moved t rows pool stack (appended t′ id (length lits)) (set rows′ (t′ .count) (id ∷ 1 ∷ t′ .top ∷ length lits ∷ 0 ∷ [])) (written pool′ (t′ .top) lits) stack (LEARN id lits hints)
-    learn-after hints = moved-after (learn-moves (m .fit) id lits room fits still-new still-ok hints)
+    learn-after hints = moved-after (learn-moves (m .fit) id lits room spare fits still-new still-ok hints)

@@ -9,8 +9,8 @@ use lib.ListN.{length, set, take, drop, length-set, length-map}
 use lib.Seq.{length-take-le}
 use Rattle.rules.specs.Lists.{all}
 use Rattle.rules.specs.Terms.{is-clause, is-witness, distinct, State}
-use Rattle.rules.specs.Frames.{WEAKEN}
-use Rattle.table.specs.Spelled.{Row, row-at, id-of, place-of, size, clause-part, held-rows, from-top, Lawful, Listed, Core, Fit, Entry, entry}
+use Rattle.rules.specs.Frames.{WEAKEN, plain}
+use Rattle.table.specs.Spelled.{Row, row-at, id-of, place-of, size, clause-part, held-rows, from-top, Lawful, Listed, Core, gone-one, Fit, Entry, entry}
 use Rattle.writes.specs.Moved.{Moved}
 use Rattle.slices.specs.Writes.{written}
 use Rattle.writes.specs.Room.{Roomy, lessened, grown, blank-row}
@@ -23,7 +23,7 @@ use Rattle.writes.proofs.Changes.{weakened}
 use Rattle.table.proofs.Rows.{clause-length, witness-length, earlier, later, plain-row, listed-cut, core-cut, clear-tail, Comes, entries-put, core-put}
 use Rattle.writes.proofs.Packing.{roomy-lengths}
 use Rattle.table.proofs.Readers.{count-rows, row-same, row-inside, depth-below}
-use Rattle.writes.proofs.Moves.{refit, moved-by, core-at, size-within, ends, entries-at, own-clause, settle-core, settle-entries}
+use Rattle.writes.proofs.Moves.{refit, moved-by, core-at, size-within, ends, entries-at, gone-swap, own-clause, settle-core, settle-entries}
 
 -- ---- the second half: a record at the tail, in place of a row that holds nothing
 
@@ -101,7 +101,8 @@ module _ {t : Table} {rows : List Row} {pool : List ℤ} {stack : List ℕ} (f :
     record-fit =
         let e = take-swap rows at (t .count) record-row h (f .rows-fit) in
         let o = on-top in
-        refit f refl (f .highest-fit) (length-set rows at record-row) len₂ (length-set stack (t .depth) (id-of r)) (f .rows-fit) fits (omega arith)
+        let held-one : gone-one r ≡ 0 = rw p in
+        refit f refl refl (f .highest-fit) (length-set rows at record-row) len₂ (length-set stack (t .depth) (id-of r)) (f .rows-fit) (f .held-fit) fits (omega arith) (omega (arith, gone-swap f at h record-row, held-one))
         (rw (e, o) (core-put us bs others comes (t .words + (length lits + length wit)) (id-of r ∷ from-top t stack) refl listed))
 
     record-entries : map (entry pool₂) (take (t .count) (set rows at record-row)) ≡ es ++ entry-of 2 (id-of r) lits wit ∷ fs
@@ -136,22 +137,23 @@ module _ {t : Table} {rows : List Row} {pool : List ℤ} {stack : List ℕ} (f :
   unlisted : Listed (spell 2 (es₁ ++ fs₁)) (from-top t stack)
   unlisted = listed-cut us₁ r₁ bs₁ k₁ (rw p)
 
-  empty-clause : is-clause (t .vars) [] ≡ true
-  unfolding is-clause all distinct
-  empty-clause = refl
+  empty-clause : Lawful (t .vars) 0 (plain (id-of r₁) [])
+  unfolding Lawful is-clause all distinct
+  empty-clause = (refl, refl)
 
   pub blank-fit : Fit (lessened t (size r₁)) (set rows at (blank-row r₁)) pool stack
   blank-fit =
-      refit f refl (f .highest-fit) (length-set rows at (blank-row r₁)) refl refl (f .rows-fit) (f .pool-fit) (f .stack-fit)
-      (settle-core f at h 0 (omega arith) empty-clause (from-top t stack) unlisted (t .words - size r₁) (omega (arith, size-within f at h)))
+      let held-one : gone-one r₁ ≡ 0 = rw p in
+      refit f refl refl (f .highest-fit) (length-set rows at (blank-row r₁)) refl refl (f .rows-fit) (f .held-fit) (f .pool-fit) (f .stack-fit) (omega (arith, gone-swap f at h (blank-row r₁), held-one))
+      (settle-core f at h 0 0 (omega arith) empty-clause refl (from-top t stack) unlisted (t .words - size r₁) (omega (arith, size-within f at h)))
 
   blank-entries : map (entry pool) (take (t .count) (set rows at (blank-row r₁))) ≡ es₁ ++ entry-of 0 (id-of r₁) [] [] ∷ fs₁
-  blank-entries = settle-entries f at h 0 (omega arith) empty-clause (from-top t stack) unlisted
+  blank-entries = settle-entries f at h 0 0 (omega arith) empty-clause refl (from-top t stack) unlisted
 
   entries-were : map (entry pool) (held-rows t rows) ≡ es₁ ++ entry-of 0 (id-of r₁) lits₁ [] ∷ fs₁
   entries-were = let e = plain-row us₁ r₁ bs₁ k₁ 0 (omega arith) p in entries-at f at h ∙ rw e
 
-  stack-low : t .depth < t .count
+  stack-low : t .depth + t .gone < t .count
   stack-low = let n = count-rows f in let e = row-same f at h in depth-below f at (omega arith) (rw e p)
 
   -- ---- room is made, and the record written
@@ -196,14 +198,14 @@ module _ {t : Table} {rows : List Row} {pool : List ℤ} {stack : List ℕ} (f :
     fits = omega (arith, m .room)
 
     deep₂ : t₂ .depth < length stack
-    deep₂ = omega (arith, m .depth, stack-low, f .rows-fit, f .stack-lent)
+    deep₂ = omega (arith, m .depth, stack-low, f .held-fit, f .stack-lent)
 
     -- what the code asks
     pub record-numbers : t .words + length wit ≤ length pool →
         (at < length rows₂) × (t₂ .top + (length lits₁ + length wit) ≤ length pool₂) × (t₂ .words + (length lits₁ + length wit) ≤ length pool₂) × (length pool₂ ≤ 8192) × (t₂ .depth < length stack) × (t₂ .depth < 1024)
     record-numbers free =
         let l = roomy-lengths m in
-        (omega (arith, h₂, m .fit .rows-fit), fits, omega (arith, m .words, clause-length pool r₁ (row-inside f at h), size-within f at h), m .fit .pool-lent, deep₂, omega (arith, m .depth, stack-low, f .rows-fit, f .rows-lent))
+        (omega (arith, h₂, m .fit .rows-fit), fits, omega (arith, m .words, clause-length pool r₁ (row-inside f at h), size-within f at h), m .fit .pool-lent, deep₂, omega (arith, m .depth, stack-low, f .held-fit, f .entries-lent))
 
     pub weaken-moves : (groups : List ℤ) → Moved t rows pool stack (grown t₂ (length lits₁ + length wit)) (set rows₂ at (id-of r₂ ∷ 2 ∷ t₂ .top ∷ length lits₁ ∷ length wit ∷ []))
         (written (written pool₂ (t₂ .top) lits₁) (t₂ .top + length lits₁) wit) (set stack (t₂ .depth) (id-of r₂)) (WEAKEN (id-of r₁) wit groups)
@@ -220,6 +222,6 @@ module _ {t : Table} {rows : List Row} {pool : List ℤ} {stack : List ℕ} (f :
         let o = on-top (m .fit) at h₂ lits₁ wit place-zero holds-nothing fits deep₂ c w in
         let d = ap (λ (n : ℕ). reverse (take n stack)) (m .depth) in
         moved-by f (record-fit (m .fit) at h₂ lits₁ wit place-zero holds-nothing fits deep₂ c w)
-        (length-set rows₂ at _ ∙ ap (λ (s : State). s .entries) (m .same) ∙ length-set rows at (blank-row r₁))
+        (ap (λ (s : State). s .entries) (m .same))
         (len₂ (m .fit) at h₂ lits₁ wit place-zero holds-nothing fits deep₂ c w ∙ ap (λ (s : State). s .words) (m .same))
-        (rw (x, y, o, a, b, i, d, v, hi) (weakened (t .vars) (t .highest) (length rows) (length pool) es₁ fs₁ (from-top t stack) (id-of r₁) lits₁ (earlier us₁ r₁ bs₁ k₁) (later us₁ r₁ bs₁ k₁) wit groups unlisted))
+        (rw (x, y, o, a, b, i, d, v, hi) (weakened (t .vars) (t .highest) (t .entries) (length pool) es₁ fs₁ (from-top t stack) (id-of r₁) lits₁ (earlier us₁ r₁ bs₁ k₁) (later us₁ r₁ bs₁ k₁) wit groups unlisted))

@@ -23,7 +23,7 @@ Fits t rows pool = (stack : List ℕ) × Fit t rows pool stack
 
 -- `at` is a row held; the numbers that the code leans on
 abbrev pub RowHeld : Table → List Row → ℕ → Type 0
-RowHeld t rows at = (at < t .count) × (t .count ≤ length rows) × (size (row-at rows at) ≤ t .words)
+RowHeld t rows at = (at < t .count) × (t .count ≤ length rows) × (size (row-at rows at) ≤ t .words) × (t .gone ≤ 2048)
 
 -- "an id, 1 to 2,147,483,647. A new id must be greater than every id accepted before"
 abbrev pub New : Table → ℕ → Type 0

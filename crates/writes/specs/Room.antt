@@ -1,11 +1,13 @@
--- Room at the pool's tail, made by bringing all parts together at its front.
+-- Room: at the pool's tail, made by bringing all parts together at its front; and behind the last row, made by taking out the rows whose clause is gone.
 use mathlib.Core.Path.{_≡_}
+use mathlib.Core.Bool.{Bool, not}
 use mathlib.Core.List.{List, [], _∷_, _++_, map}
-use Prim.Native.Nat.{ℕ, _+_, _-_, _≤_}
+use Prim.Native.Nat.{ℕ, _+_, _-_, _<_, _≤_}
 use lib.IntN.{ℤ}
 use lib.ListN.{length, take, drop}
+use Rattle.rules.specs.Lists.{only}
 use Rattle.table.specs.Facts.{total}
-use Rattle.table.specs.Spelled.{Row, id-of, place-of, start-of, length-of, witness-of, size, part, entry, held-rows, spelled, Fit}
+use Rattle.table.specs.Spelled.{Row, id-of, place-of, start-of, length-of, witness-of, size, part, stands, entry, held-rows, spelled, Fit}
 use Rattle.table.specs.declared.Table.{Table}
 
 -- the row, with its part at `at`
@@ -34,17 +36,53 @@ pub record Roomy (t : Table) (rows : List Row) (pool : List ℤ) (stack : List �
   pub same : spelled t′ rows′ pool′ stack ≡ spelled t rows pool stack
   pub entries : map (entry pool′) (held-rows t′ rows′) ≡ map (entry pool) (held-rows t rows)
   pub count : t′ .count ≡ t .count
+  pub gone : t′ .gone ≡ t .gone
+  pub long : length rows′ ≡ length rows
   pub words : t′ .words ≡ t .words
   pub depth : t′ .depth ≡ t .depth
   pub room : t′ .top + n ≤ length pool′
 
+-- ---- rows
+
+-- the row holds a clause
+abbrev pub present : Row → Bool
+present r = not (stands 3 r)
+
+-- the first k rows are those of the first i that hold a clause, and those from i on are as they were
+pub record Closing (rows₀ : List Row) (i k : ℕ) (rows : List Row) : Type 0 where
+  pub front : take k rows ≡ only present (take i rows₀)
+  pub rest : drop i rows ≡ drop i rows₀
+  pub few : k ≤ i
+  pub long : length rows ≡ length rows₀
+
+abbrev pub Closes : List Row → ℕ → ℕ → List Row → Type 0
+Closes rows n k rows′ = Closing rows n k rows′
+
+-- no row in use is gone, and nothing else is changed
+pub record Squeezed (t : Table) (rows : List Row) (pool : List ℤ) (stack : List ℕ) (t′ : Table) (rows′ : List Row) : Type 0 where
+  pub fit : Fit t′ rows′ pool stack
+  pub same : spelled t′ rows′ pool stack ≡ spelled t rows pool stack
+  pub none-gone : t′ .gone ≡ 0
+  pub kept : t′ .count + t .gone ≡ t .count
+  pub words : t′ .words ≡ t .words
+  pub long : length rows′ ≡ length rows
+
+-- there is a row behind the last in use, and a clause more may be held
+pub record FreeRow (t : Table) (rows : List Row) (pool : List ℤ) (stack : List ℕ) (t′ : Table) (rows′ : List Row) : Type 0 where
+  pub fit : Fit t′ rows′ pool stack
+  pub same : spelled t′ rows′ pool stack ≡ spelled t rows pool stack
+  pub row : t′ .count < length rows′
+  pub entry : t′ .count < t′ .entries + t′ .gone
+  pub words : t′ .words ≡ t .words
+  pub long : length rows′ ≡ length rows
+
 -- ---- WEAKEN, in two halves: the row gives up its words, a record takes them and the witness's
 
 abbrev pub lessened : Table → ℕ → Table
-lessened t n = record { vars = t .vars; highest = t .highest; count = t .count; words = t .words - n; depth = t .depth; top = t .top }
+lessened t n = record { vars = t .vars; highest = t .highest; entries = t .entries; count = t .count; gone = t .gone; words = t .words - n; depth = t .depth; top = t .top }
 
 abbrev pub grown : Table → ℕ → Table
-grown t n = record { vars = t .vars; highest = t .highest; count = t .count; words = t .words + n; depth = t .depth + 1; top = t .top + n }
+grown t n = record { vars = t .vars; highest = t .highest; entries = t .entries; count = t .count; gone = t .gone; words = t .words + n; depth = t .depth + 1; top = t .top + n }
 
 abbrev pub blank-row : Row → Row
 blank-row r = id-of r ∷ 0 ∷ start-of r ∷ 0 ∷ 0 ∷ []

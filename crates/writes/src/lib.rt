@@ -10,7 +10,7 @@ ghost use Rattle.rules.specs.Frames.{ADD, DROP, FORGET, LEARN, PROMOTE, RESTORE
 ghost use Rattle.slices.specs.Writes.{Among, written};
 ghost use Rattle.table.specs.Spelled.{Fit, id-of, place-of, row-at, size};
 ghost use Rattle.writes.specs.Moved.{Fits, Moved, New, RowHeld, Weakenable};
-ghost use Rattle.writes.specs.Room.{Gathered, Roomy, blank-row, grown, lessened};
+ghost use Rattle.writes.specs.Room.{Closes, FreeRow, Gathered, Roomy, Squeezed, blank-row, grown, lessened};
 use table::Table;
 
 // ---- what writers are made of
@@ -48,7 +48,9 @@ fn compact(rows: &mut [[u32; 5]], pool: &mut [i32], t: Table) -> Table
     Table {
         vars: t.vars,
         highest: t.highest,
+        entries: t.entries,
         count: t.count,
+        gone: t.gone,
         words: t.words,
         depth: t.depth,
         top: t.words,
@@ -68,6 +70,54 @@ fn make_room(rows: &mut [[u32; 5]], pool: &mut [i32], t: Table, n: usize) -> Tab
     t
 }
 
+// The rows that hold a clause, one after the other at the front. How many they are.
+fn close_up(rows: &mut [[u32; 5]], count: usize) -> usize
+    requires { ⌜ count ≤ length (now rows) ⌝ }
+    ensures { λ r. ⌜ Closes (now (rows .entry)) count r (now (rows .exit)) ⌝ }
+{
+    let mut i = 0;
+    let mut k = 0;
+    while i < count {
+        let row = rows[i];
+        i += 1;
+        if row[1] != 3 {
+            rows[k] = row;
+            k += 1;
+        }
+    }
+    k
+}
+
+// The rows whose clause is gone are taken out: all of them at once, so that each is moved past few times only.
+pub fn squeeze(rows: &mut [[u32; 5]], t: Table) -> Table
+    requires { ⌜ t .count ≤ length (now rows) ⌝ }
+    ensures { λ r. ⌜ ((pool : List ℤ) (stack : List ℕ) → Fit t (now (rows .entry)) pool stack → Squeezed t (now (rows .entry)) pool stack r (now (rows .exit))) ⌝ }
+{
+    let k = close_up(rows, t.count as usize);
+    Table {
+        vars: t.vars,
+        highest: t.highest,
+        entries: t.entries,
+        count: k as u32,
+        gone: 0,
+        words: t.words,
+        depth: t.depth,
+        top: t.top,
+    }
+}
+
+// A row behind the last: where there is none, one is gone.
+fn free_row(rows: &mut [[u32; 5]], t: Table) -> Table
+    requires { ⌜ (t .count ≤ length (now rows)) × (t .count < t .entries + t .gone) ⌝ }
+    ensures { λ r. ⌜ ((pool : List ℤ) (stack : List ℕ) → Fit t (now (rows .entry)) pool stack → FreeRow t (now (rows .entry)) pool stack r (now (rows .exit))) ⌝ }
+{
+    let count = t.count as usize;
+    if count == rows.len() {
+        return squeeze(rows, t);
+    }
+    t
+}
+
 // A row without its words: an empty clause.
 fn blank(rows: &mut [[u32; 5]], t: Table, at: usize) -> Table
     requires { ⌜ RowHeld t (now rows) at ⌝ }
@@ -78,7 +128,9 @@ fn blank(rows: &mut [[u32; 5]], t: Table, at: usize) -> Table
     Table {
         vars: t.vars,
         highest: t.highest,
+        entries: t.entries,
         count: t.count,
+        gone: t.gone,
         words: t.words - (row[3] + row[4]),
         depth: t.depth,
         top: t.top,
@@ -113,7 +165,9 @@ fn write_record(
     Table {
         vars: t.vars,
         highest: t.highest,
+        entries: t.entries,
         count: t.count,
+        gone: t.gone,
         words: t.words + (n + w),
         depth: t.depth + 1,
         top: t.top + (n + w),
@@ -131,13 +185,14 @@ pub fn append(
     id: u32,
     lits: &[i32],
 ) -> Table
-    requires { ⌜ Fits t (now rows) (now pool) × (t .count < length (now rows)) × (t .words + length (now lits) ≤ length (now pool)) ⌝ }
+    requires { ⌜ Fits t (now rows) (now pool) × (t .count < t .entries + t .gone) × (t .words + length (now lits) ≤ length (now pool)) ⌝ }
     ensures added { λ r. ⌜ (place ≡ 0 → (stack : List ℕ) → Fit t (now (rows .entry)) (now (pool .entry)) stack → New t id → is-clause (t .vars) (now (lits .entry)) ≡ true
         → Moved t (now (rows .entry)) (now (pool .entry)) stack r (now (rows .exit)) (now (pool .exit)) stack (ADD id (now (lits .entry)))) ⌝ }
     ensures learned { λ r. ⌜ (place ≡ 1 → (stack : List ℕ) (hints : List ℤ) → Fit t (now (rows .entry)) (now (pool .entry)) stack → New t id → is-clause (t .vars) (now (lits .entry)) ≡ true
         → Moved t (now (rows .entry)) (now (pool .entry)) stack r (now (rows .exit)) (now (pool .exit)) stack (LEARN id (now (lits .entry)) hints)) ⌝ }
 {
-    let u = make_room(rows, pool, t, lits.len());
+    let v = free_row(rows, t);
+    let u = make_room(rows, pool, v, lits.len());
     let count = u.count as usize;
     let top = u.top as usize;
     let n = lits.len() as u32;
@@ -146,7 +201,9 @@ pub fn append(
     Table {
         vars: u.vars,
         highest: id,
+        entries: u.entries,
         count: u.count + 1,
+        gone: u.gone,
         words: u.words + n,
         depth: u.depth,
         top: u.top + n,
@@ -178,7 +235,7 @@ pub fn weaken(
     write_record(rows, pool, stack, u, at, &lits[0..n], witness)
 }
 
-// FORGET, DROP: the clause of the row at `at` goes. Its literals stay where they are, and are nobody's.
+// FORGET, DROP: the clause of the row at `at` goes. Its literals stay where they are, and are nobody's; so does the row, without words, until rows run out.
 pub fn remove(rows: &mut [[u32; 5]], t: Table, at: usize) -> Table
     requires { ⌜ RowHeld t (now rows) at ⌝ }
     ensures forgotten { λ r. ⌜ (place-of (row-at (now (rows .entry)) at) ≡ 1 → (pool : List ℤ) (stack : List ℕ) → Fit t (now (rows .entry)) pool stack
@@ -186,13 +243,14 @@ pub fn remove(rows: &mut [[u32; 5]], t: Table, at: usize) -> Table
     ensures dropped { λ r. ⌜ (place-of (row-at (now (rows .entry)) at) ≡ 0 → (pool : List ℤ) (stack : List ℕ) (hints : List ℤ) → Fit t (now (rows .entry)) pool stack
         → Moved t (now (rows .entry)) pool stack r (now (rows .exit)) pool stack (DROP (id-of (row-at (now (rows .entry)) at)) hints)) ⌝ }
 {
-    let n = t.count as usize;
     let row = rows[at];
-    slices::close_rows(rows, n, at);
+    rows[at] = [row[0], 3, row[2], 0, 0];
     Table {
         vars: t.vars,
         highest: t.highest,
-        count: t.count - 1,
+        entries: t.entries,
+        count: t.count,
+        gone: t.gone + 1,
         words: t.words - (row[3] + row[4]),
         depth: t.depth,
         top: t.top,
@@ -210,7 +268,9 @@ pub fn promote(rows: &mut [[u32; 5]], t: Table, at: usize) -> Table
     Table {
         vars: t.vars,
         highest: t.highest,
+        entries: t.entries,
         count: t.count,
+        gone: t.gone,
         words: t.words - row[4],
         depth: t.depth,
         top: t.top,
@@ -231,7 +291,9 @@ pub fn restore(rows: &mut [[u32; 5]], stack: &mut [u32], t: Table, at: usize) ->
     Table {
         vars: t.vars,
         highest: t.highest,
+        entries: t.entries,
         count: t.count,
+        gone: t.gone,
         words: t.words - row[4],
         depth: t.depth - 1,
         top: t.top,

@@ -24,7 +24,7 @@ returns : tie.Need-returns
 returns c = λ stack f. c .before .before .compact .ensures stack _ f (c .before .before .before .before .before .before .before .pre .1)
 
 returns-2 : tie.Need-returns-2
-returns-2 c = λ stack f. record { fit = f; same = refl; entries = refl; count = refl; words = refl; depth = refl; room = omega (arith, f .pool-fit) }
+returns-2 c = λ stack f. record { fit = f; same = refl; entries = refl; count = refl; gone = refl; long = refl; words = refl; depth = refl; room = omega (arith, f .pool-fit) }
 
 pub make-room-spec : {M : Type 1} → statement M
 make-room-spec =

@@ -1,11 +1,9 @@
--- `table::remove` meets its contract: the laws of FORGET and DROP.
+-- `writes::remove` meets its contract: the laws of FORGET and DROP.
+use native.Mathlib.Omega.{arith}
 use Rattle.writes.proofs.Moves.{forget-moves, drop-moves}
 use borrow.Author.Needs.{needs}
 use Rattle.writes.proofs.remove.Statement.{statement}
 use Rattle.writes.proofs.remove.Tie as tie
-
-cast-n : tie.Need-cast-n
-cast-n c = search needs
 
 mul-row : tie.Need-mul-row
 mul-row c = search needs
@@ -13,45 +11,55 @@ mul-row c = search needs
 slice-copy-out-row : tie.Need-slice-copy-out-row
 slice-copy-out-row c = search needs
 
-close-rows-requires : tie.Need-close-rows-requires
-close-rows-requires c κs = search needs
+array-read-t10 : tie.Need-array-read-t10
+array-read-t10 c = search needs
 
-sub-t12 : tie.Need-sub-t12
-sub-t12 c = search needs
+array-read-t13 : tie.Need-array-read-t13
+array-read-t13 c = search needs
 
-array-read-t15 : tie.Need-array-read-t15
-array-read-t15 c = search needs
+mul-t5 : tie.Need-mul-t5
+mul-t5 c = search needs
 
-array-read-t18 : tie.Need-array-read-t18
-array-read-t18 c = search needs
+slice-set-from-rows : tie.Need-slice-set-from-rows
+slice-set-from-rows c = search needs
 
-add-t19 : tie.Need-add-t19
-add-t19 c = search needs
+add-t10 : tie.Need-add-t10
+add-t10 c = omega (arith, c .before .before .pre .3)
 
-sub-t20 : tie.Need-sub-t20
-sub-t20 c = search needs
+array-read-t13-2 : tie.Need-array-read-t13-2
+array-read-t13-2 c = search needs
+
+array-read-t19 : tie.Need-array-read-t19
+array-read-t19 c = search needs
+
+add-t20 : tie.Need-add-t20
+add-t20 c = search needs
+
+sub-t21 : tie.Need-sub-t21
+sub-t21 c = search needs
 
 same-length : tie.Need-same-length
 same-length c = search needs
 
 returns : tie.Need-returns
 returns c =
-    let s = c .before .before .before .before .before .before .before in
-    let p = c .before .before .before .close-rows .ensures in
-    (λ e pool stack f. rw p (forget-moves f (s .args .at) (s .pre .0) e), λ e pool stack hints f. rw p (drop-moves f (s .args .at) (s .pre .0) hints e))
+    let s = c .before .before .before in
+    (λ e pool stack f. forget-moves f (s .args .at) (s .pre .0) e, λ e pool stack hints f. drop-moves f (s .args .at) (s .pre .0) hints e)
 
 pub remove-spec : {M : Type 1} → statement M
 remove-spec =
     tie.close
     (tie.spec
-    cast-n
     mul-row
     slice-copy-out-row
-    close-rows-requires
-    sub-t12
-    array-read-t15
-    array-read-t18
-    add-t19
-    sub-t20
+    array-read-t10
+    array-read-t13
+    mul-t5
+    slice-set-from-rows
+    add-t10
+    array-read-t13-2
+    array-read-t19
+    add-t20
+    sub-t21
     same-length
     returns)
