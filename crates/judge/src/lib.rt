@@ -11,7 +11,7 @@ ghost use Rattle.rules.specs.Answers.{_then_, need, unseen, free-entry, free-wo
 ghost use Rattle.rules.specs.Answers as paper;
 ghost use Rattle.rules.specs.declared.Fault.the-variants.{Id};
 ghost use Rattle.rules.proofs.Propagation.{Stopped};
-ghost use Rattle.table.specs.Spelled.{Fit, Readable, Rising, held-rows, spelled};
+ghost use Rattle.table.specs.Spelled.{Row, Fit, Readable, Rising, held-rows, spelled};
 ghost use Rattle.walk.specs.Records.{Stacked, records};
 ghost use Rattle.judge.specs.Judged.{Located-in, Judges};
 use hints::Scope;
@@ -83,14 +83,15 @@ pub fn decided(verdict: Verdict, at: usize, d: u32) -> Check
 }
 
 // 12, then 13: room for a clause of n literals, by the counts alone.
-fn room(rows: &[[u32; 5]], pool: &[i32], t: Table, n: usize) -> Check
+fn room(pool: &[i32], t: Table, n: usize) -> Check
     requires { ⌜ n ≤ 256 ⌝ }
-    ensures { λ r. ⌜ ((stack : List ℕ) → Fit t (now (rows .entry)) (now (pool .entry)) stack
-        → r ≡ (free-entry (spelled t (now (rows .entry)) (now (pool .entry)) stack) then free-words (spelled t (now (rows .entry)) (now (pool .entry)) stack) n)) ⌝ }
+    ensures { λ r. ⌜ ((rows : List Row) (stack : List ℕ) → Fit t rows (now (pool .entry)) stack
+        → r ≡ (free-entry (spelled t rows (now (pool .entry)) stack) then free-words (spelled t rows (now (pool .entry)) stack) n)) ⌝ }
 {
     let count = t.count as usize;
+    let most = t.entries as usize + t.gone as usize;
     let words = t.words as usize + n;
-    if rows.len() <= count {
+    if most <= count {
         return Check::Failed(Fault::NoEntry);
     }
     if pool.len() < words {
@@ -122,7 +123,7 @@ pub fn judge_add(
     if let Check::Failed(f) = clean {
         return Check::Failed(f);
     }
-    room(rows, pool, t, c.len())
+    room(pool, t, c.len())
 }
 
 pub fn judge_learn(
@@ -141,7 +142,7 @@ pub fn judge_learn(
     if let Check::Failed(f) = sound {
         return Check::Failed(f);
     }
-    let free = room(rows, pool, t, c.len());
+    let free = room(pool, t, c.len());
     if let Check::Failed(f) = free {
         return Check::Failed(f);
     }

@@ -1,7 +1,7 @@
 -- The tests of a row, or of two, and the facts that the working table keeps of them.
 use mathlib.Core.Path.{_≡_, refl}
 use mathlib.Core.Logic.{_⊎_, ⊎-elim}
-use mathlib.Core.Bool.{true, _||_, false≢true}
+use mathlib.Core.Bool.{true, false, _||_, false≢true}
 use mathlib.Core.List.{List, [], _∷_}
 use Prim.Native.Nat.{ℕ, zero, suc, _+_, _<_, _≤_}
 use native.Mathlib.Omega.{arith}
@@ -10,9 +10,9 @@ use lib.IntN.{ℤ}
 use borrow.Author.Tests.{ltb-true, leb-true, eqb-true, lt-ltb, le-leb, eq-eqb, ne-eqb}
 use Rattle.rules.specs.Lists.{all}
 use Rattle.rules.specs.Terms.{is-clause, is-witness, null, Held, is-plain, is-record}
-use Rattle.rules.proofs.Lists.{and-left, and-right, and-both, or-right}
-use Rattle.table.specs.Facts.{All, Pairs}
-use Rattle.table.specs.Spelled.{Row, id-of, place-of, start-of, size, held, Known, Inside, Clear, Lawful, Rising}
+use Rattle.rules.proofs.Lists.{by-cases, true-false, and-left, and-right, and-both, or-right}
+use Rattle.table.specs.Facts.{All, none, both, Pairs, total}
+use Rattle.table.specs.Spelled.{Row, id-of, place-of, start-of, size, held, stands, Known, Inside, Clear, Lawful, Rising, gone-one}
 use Rattle.lent.proofs.Tests.{or-fact, or-test, all-fact, two-fact, two-test}
 use Rattle.lent.specs.State.{every-two, other-id, known, lawful, inside, clear}
 
@@ -52,12 +52,21 @@ module _ (vars : ℕ) (h : Held) where
   lawful-fact (suc (suc zero)) t = (and-left (is-clause vars (h .lits)) (is-witness vars (h .lits) (h .witness)) t, and-right (is-clause vars (h .lits)) (is-witness vars (h .lits) (h .witness)) t)
   lawful-fact (suc (suc (suc p))) t = absurd (false≢true t)
 
-  pub lawful-test : (p : ℕ) → Lawful vars p h → lawful vars p h ≡ true
+  -- a clause that is gone is none of the paper's
+  pub lawful-test : (p : ℕ) → eqb p 3 ≡ false → Lawful vars p h → lawful vars p h ≡ true
   unfolding lawful Lawful is-record
-  lawful-test zero l = plain-test l
-  lawful-test (suc zero) l = plain-test l
-  lawful-test (suc (suc zero)) l = and-both (l .0) (l .1)
-  lawful-test (suc (suc (suc p))) l = absurd l
+  lawful-test zero n l = plain-test l
+  lawful-test (suc zero) n l = plain-test l
+  lawful-test (suc (suc zero)) n l = and-both (l .0) (l .1)
+  lawful-test (suc (suc (suc zero))) n l = true-false refl n
+  lawful-test (suc (suc (suc (suc p)))) n l = absurd l
+
+  pub lawful-stays : (p : ℕ) → lawful vars p h ≡ true → eqb p 3 ≡ false
+  unfolding lawful
+  lawful-stays zero t = refl
+  lawful-stays (suc zero) t = refl
+  lawful-stays (suc (suc zero)) t = refl
+  lawful-stays (suc (suc (suc p))) t = absurd (false≢true t)
 
 -- ---- "all literals lie inside the pool"
 
@@ -91,6 +100,18 @@ module _ (r x : Row) where
       (or-test (eqb (size r) 0) (eqb (size x) 0) (eq-eqb (size r) 0) (eq-eqb (size x) 0))
       (or-test (leb end-r (start-of x)) (leb end-x (start-of r)) (le-leb end-r (start-of x)) (le-leb end-x (start-of r)))
       c
+
+-- ---- no row's clause is gone
+
+pub none-gone : (rows : List Row) → total gone-one rows ≡ 0 → All (λ r. stands 3 r ≡ false) rows
+none-gone [] e = none
+none-gone (r ∷ rows) e = by-cases (stands 3 r)
+    (λ g. let z : 1 + total gone-one rows ≡ 0 = rw g at e in absurd (omega arith))
+    (λ g. let z : 0 + total gone-one rows ≡ 0 = rw g at e in both g (none-gone rows (omega arith)))
+
+pub all-stay : {rows : List Row} → All (λ r. stands 3 r ≡ false) rows → total gone-one rows ≡ 0
+all-stay none = refl
+all-stay (both g a) = rw g (omega (arith, all-stay a))
 
 -- ---- of all rows
 

@@ -1,5 +1,5 @@
 -- What a working table leaves is a state, and the one that the table spells: so what is stored back after an accepted frame is what the paper says.
--- Of the entries, those held are the table's rows; what stands behind them does not count.
+-- Of the entries, those held are the table's rows, where no clause is gone; what stands behind them does not count.
 use mathlib.Core.Path.{_≡_, sym, _∙_}
 use mathlib.Core.Bool.{true}
 use mathlib.Core.List.{List}
@@ -9,20 +9,23 @@ use lib.IntN.{ℤ}
 use lib.ListN.{length, take}
 use borrow.Author.Tests.{lt-ltb, le-leb, eq-eqb}
 use lib.Seq.{length-take-le}
+use Rattle.rules.specs.Lists.{all}
 use Rattle.rules.proofs.Lists.{and-both}
 use Rattle.table.specs.Facts.{total}
 use Rattle.table.specs.Spelled as working
 use Rattle.table.specs.Spelled.{Row, place-of, size, held, clauses, Fit}
 use Rattle.table.specs.declared.Table.{Table}
-use Rattle.lent.specs.State.{lists, numbers-are, counts-are, rows-are, is-state, state-of}
+use Rattle.table.proofs.Facts.{all-both}
+use Rattle.lent.specs.State.{lawful, lists, numbers-are, counts-are, rows-are, is-state, state-of}
 use Rattle.lent.specs.Stored.{carried-of}
 use Rattle.lent.specs.declared.Carried.{Carried}
 use Rattle.lent.proofs.Tests.{all-test, two-test}
-use Rattle.lent.proofs.Judged.{others-test, known-test, lawful-test, inside-test, clear-test}
+use Rattle.lent.proofs.Judged.{others-test, known-test, lawful-test, none-gone, inside-test, clear-test}
 use Rattle.lent.proofs.Listing.{settled-rising, clauses-rising, lists-test, listed-length}
 
 module _ {t : Table} {rows : List Row} {pool : List ℤ} {stack : List ℕ} (f : Fit t rows pool stack)
-    (lent : List Row) (same : take (t .count) lent ≡ take (t .count) rows) (long : length lent ≡ length rows) where
+    (stay : t .gone ≡ 0)
+    (lent : List Row) (same : take (t .count) lent ≡ take (t .count) rows) (long : length lent ≡ t .entries) where
   abbrev c : Carried
   c = carried-of t stack
 
@@ -38,15 +41,18 @@ module _ {t : Table} {rows : List Row} {pool : List ℤ} {stack : List ℕ} (f :
 
   counts : counts-are c lent pool ≡ true
   counts =
-      let n = f .rows-fit in
+      let n = f .held-fit in
       rw same (and-both (le-leb (t .count) (length lent) (omega arith)) (and-both (eq-eqb (t .words) (total size rs) (f .core .counted)) (eq-eqb (t .depth) _ deep)))
+
+  laws : all (λ r. lawful (t .vars) (place-of r) (held pool r)) rs ≡ true
+  laws = all-test (λ r l. l) (all-both (λ r n l. lawful-test (t .vars) (held pool r) (place-of r) n l) (none-gone rs (sym (f .gone-fit) ∙ stay)) (f .core .lawful))
 
   judged : rows-are c lent pool ≡ true
   judged =
       let k = f .core in
       rw same (and-both (others-test rs (k .rising))
       (and-both (all-test (λ r h. known-test (t .highest) r h) (k .known))
-      (and-both (all-test (λ r h. lawful-test (t .vars) (held pool r) (place-of r) h) (k .lawful))
+      (and-both laws
       (and-both (all-test (λ r h. inside-test (t .top) (length pool) r (f .pool-fit) h) (k .inside))
       (two-test (λ r x h. clear-test r x h) (k .apart))))))
 

@@ -58,6 +58,9 @@ module _ (c : Carried) (rows : List Row) (pool : List ℤ) (h : c .count ≤ len
       let w = same-held in
       rw (w, a, b)
 
+  pub front-none : is-state c front pool ≡ false → is-state c rows pool ≡ false
+  front-none e = same-state ∙ e
+
   pub stack-past : length rows < c .depth → is-state c rows pool ≡ false
   stack-past d = same-state ∙ too-deep c front pool front-count (omega (arith, front-count))
 
@@ -76,28 +79,38 @@ module _ (c : Carried) (rows : List Row) (pool : List ℤ) (h : c .count ≤ len
     long : length all-rows ≡ length rows
     long = omega (arith, length-append ys (drop (c .count) rows), length-drop (c .count) rows, k, front-count)
 
+    -- the table of the rows held, where as many clauses may be held as there are rows lent
+    abbrev widened : Table → Table
+    widened t = record { vars = t .vars; highest = t .highest; entries = length rows; count = t .count; gone = t .gone; words = t .words; depth = t .depth; top = t .top }
+
     module _ {t : Table} (f : Fit t ys pool (c .stack)) where
       same-rows : take (t .count) all-rows ≡ take (t .count) ys
       same-rows = take-append-le (t .count) ys (drop (c .count) rows) (f .rows-fit)
 
-      whole-fit : Fit t all-rows pool (c .stack)
+      count-lent : t .count ≤ length rows
+      count-lent = omega (arith, f .rows-fit, k, front-count)
+
+      whole-fit : Fit (widened t) all-rows pool (c .stack)
       whole-fit =
           let w = same-rows in
           record {
             vars-fit = f .vars-fit;
             highest-fit = f .highest-fit;
+            entries-lent = few;
             rows-lent = omega (arith, long);
             pool-lent = f .pool-lent;
-            stack-lent = omega (arith, long);
-            rows-fit = omega (arith, long, f .rows-fit, k, front-count);
+            stack-lent = omega arith;
+            entries-fit = omega (arith, long);
+            rows-fit = omega (arith, long, count-lent);
+            held-fit = omega (arith, count-lent);
             pool-fit = f .pool-fit;
             stack-fit = f .stack-fit;
+            gone-fit = rw w (f .gone-fit);
             core = rw w (f .core);
           }
 
-      whole-spelled : working.spelled t all-rows pool (c .stack) ≡ resized (length rows) (working.spelled t ys pool (c .stack))
-      whole-spelled = let w = same-rows in let l = long in rw (w, l)
+      whole-spelled : working.spelled (widened t) all-rows pool (c .stack) ≡ resized (length rows) (working.spelled t ys pool (c .stack))
+      whole-spelled = let w = same-rows in rw w
 
-    pub front-loads : (r : Loaded) → Loads c front pool r ys → Loads c rows pool r all-rows
-    front-loads (Working t) l = (same-state ∙ l .0, whole-fit (l .1), whole-spelled (l .1) ∙ ap (resized (length rows)) (l .2) ∙ sym same-spelled)
-    front-loads NoState l = same-state ∙ l
+    pub front-loads : (t : Table) → Loads c front pool (Working t) ys → Loads c rows pool (Working (widened t)) all-rows
+    front-loads t l = (same-state ∙ l .0, whole-fit (l .1), whole-spelled (l .1) ∙ ap (resized (length rows)) (l .2) ∙ sym same-spelled)

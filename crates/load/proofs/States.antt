@@ -17,7 +17,7 @@ use Rattle.table.specs.declared.Table.{Table}
 use Rattle.lent.specs.State.{every-two, other-id, known, lawful, inside, clear, lists, is-state}
 use Rattle.lent.specs.declared.Carried.{Carried}
 use Rattle.lent.proofs.Tests.{all-fact}
-use Rattle.lent.proofs.Judged.{known-fact, lawful-fact, clears-fact}
+use Rattle.lent.proofs.Judged.{known-fact, lawful-fact, lawful-stays, all-stay, clears-fact}
 use Rattle.lent.proofs.Listing.{stack-fact}
 use Rattle.lent.proofs.Stored.{stored-is-state, stored-spells}
 use Rattle.order.specs.Orders.{is-tidy}
@@ -38,8 +38,14 @@ module _ (vars highest : ℕ) (pool : List ℤ) (r : Row) (t : right vars highes
   right-inside : Inside (length pool) r
   right-inside = leb-true (start-of r + size r) (length pool) (and-left (ends (length pool) r) (lawful vars (place-of r) (held pool r)) right-more)
 
+  lawful-is : lawful vars (place-of r) (held pool r) ≡ true
+  lawful-is = and-right (ends (length pool) r) (lawful vars (place-of r) (held pool r)) right-more
+
   right-lawful : Lawful vars (place-of r) (held pool r)
-  right-lawful = lawful-fact vars (held pool r) (place-of r) (and-right (ends (length pool) r) (lawful vars (place-of r) (held pool r)) right-more)
+  right-lawful = lawful-fact vars (held pool r) (place-of r) lawful-is
+
+  right-stays : stands 3 r ≡ false
+  right-stays = lawful-stays vars (held pool r) (place-of r) lawful-is
 
 -- a tidy row that lies inside ends there
 tidy-ends : (words : ℕ) (r : Row) → is-tidy r ≡ true → inside words r ≡ true → ends words r ≡ true
@@ -184,7 +190,7 @@ rights-inside vars highest pool rows h = all-fact (right-inside vars highest poo
 
 module _ {c : Carried} {rows : List Row} {pool : List ℤ} {top : ℕ} (p : Tested c rows pool top) where
   abbrev table : Table
-  table = record { vars = c .vars; highest = c .highest; count = c .count; words = c .words; depth = c .depth; top = top }
+  table = record { vars = c .vars; highest = c .highest; entries = c .count; count = c .count; gone = 0; words = c .words; depth = c .depth; top = top }
 
   fit : Fit table rows pool (c .stack)
   fit =
@@ -193,12 +199,16 @@ module _ {c : Carried} {rows : List Row} {pool : List ℤ} {top : ℕ} (p : Test
       record {
         vars-fit = (omega arith, p .high);
         highest-fit = p .highest;
-        rows-lent = p .few;
+        entries-lent = omega (arith, p .counted, p .few);
+        rows-lent = omega (arith, p .few);
         pool-lent = p .short;
-        stack-lent = omega (arith, p .few, p .room);
+        stack-lent = omega (arith, p .counted, p .few, p .room);
+        entries-fit = omega (arith, p .counted);
         rows-fit = omega (arith, p .counted);
+        held-fit = omega arith;
         pool-fit = p .within;
         stack-fit = omega (arith, p .deep, p .room);
+        gone-fit = rw w (sym (all-stay (all-fact (right-stays (c .vars) (c .highest) pool) rows (p .right-are))));
         core = rw w record {
           rising = p .rising;
           known = all-fact (λ r t. known-fact (c .highest) r (right-known (c .vars) (c .highest) pool r t)) rows (p .right-are);
@@ -211,4 +221,4 @@ module _ {c : Carried} {rows : List Row} {pool : List ℤ} {top : ℕ} (p : Test
       }
 
   pub loads : Loads c rows pool (Working table) rows
-  loads = (stored-is-state fit rows refl refl, fit, sym (stored-spells fit rows refl refl))
+  loads = let n = sym (p .counted) in (stored-is-state fit refl rows refl n, fit, sym (stored-spells fit refl rows refl n))

@@ -180,7 +180,9 @@ fn judge(rows: &[[u32; 5]], pool: &[i32], c: Carried) -> Loaded
     Loaded::Working(Table {
         vars: c.vars,
         highest: c.highest,
+        entries: c.count,
         count: c.count,
+        gone: 0,
         words: c.words,
         depth: c.depth,
         top,
@@ -224,5 +226,19 @@ pub fn load(rows: &mut [[u32; 5]], pool: &[i32], c: Carried) -> Loaded
     if stack_room(&stack) < lent::wide(c.depth) {
         return Loaded::NoState;
     }
-    load_held(&mut rows[..count], pool, c)
+    // load_held sees the rows held alone, but as many clauses may be held as there are rows lent.
+    let entries = rows.len() as u32;
+    let Loaded::Working(t) = load_held(&mut rows[..count], pool, c) else {
+        return Loaded::NoState;
+    };
+    Loaded::Working(Table {
+        vars: t.vars,
+        highest: t.highest,
+        entries,
+        count: t.count,
+        gone: t.gone,
+        words: t.words,
+        depth: t.depth,
+        top: t.top,
+    })
 }

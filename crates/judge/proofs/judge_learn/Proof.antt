@@ -41,7 +41,7 @@ module _ (x : tie.After-room) where
   proved = decided (3 + length (a .args .c .now)) 0 (proves (among (state .irredundant ++ state .learned)) (a .args .c .now) (a .args .hints .now))
 
   left : check-learn state (a .args .id) (a .args .c .now) (a .args .hints .now) ≡ (x .room .result then proved)
-  left = in-two _ _ _ ∙ goes-on (sound (x .before)) _ ∙ in-two _ _ _ ∙ ap (λ r. r then proved) (sym (x .room .ensures _ (a .pre .0)))
+  left = in-two _ _ _ ∙ goes-on (sound (x .before)) _ ∙ in-two _ _ _ ∙ ap (λ r. r then proved) (sym (x .room .ensures _ _ (a .pre .0)))
 
 new-clause-requires : tie.Need-new-clause-requires
 new-clause-requires c κs = search needs

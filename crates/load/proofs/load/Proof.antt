@@ -1,8 +1,16 @@
 -- `load::load` meets its contract: of the rows lent, those held are loaded.
-use mathlib.Core.Path.{sym, _∙_}
+use mathlib.Core.Path.{_≡_, sym, _∙_, subst}
+use mathlib.Core.List.{List}
+use Prim.Native.Nat.{_≤_}
 use native.Mathlib.Omega.{arith}
+use lib.IntN.{ℤ}
+use lib.ListN.{length, take}
 use lib.Seq.{length-take-le}
-use Rattle.load.proofs.Held.{too-many, stack-past, front-loads}
+use Rattle.table.specs.Spelled.{Row}
+use Rattle.lent.specs.declared.Carried.{Carried}
+use Rattle.load.specs.Loads.{Loads}
+use Rattle.load.specs.declared.Loaded.{Loaded}
+use Rattle.load.proofs.Held.{too-many, stack-past, front-none, front-loads}
 use borrow.Author.Needs.{needs}
 use Rattle.load.proofs.load.Statement.{statement}
 use Rattle.load.proofs.load.Tie as tie
@@ -24,6 +32,9 @@ returns-2 c =
     let s = c .before .before .before .before .before .before .before in
     stack-past (s .args .c) (s .args .rows .now) (s .args .pool .now) (omega (arith, c .before .before .before .before .before .if1 .left, c .before .before .before .before .before .before .wide .ensures .0)) (omega (arith, c .if2 .taken, c .before .wide2 .ensures .0, c .before .before .stack-room .ensures .0, s .pre .0))
 
+cast-entries : tie.Need-cast-entries
+cast-entries c = search needs
+
 slice-relend-prefix-load-held : tie.Need-slice-relend-prefix-load-held
 slice-relend-prefix-load-held c = search needs
 
@@ -36,17 +47,55 @@ load-held-requires c κs =
     let k = length-take-le (c .before .before .before .before .before .before .before .wide .result) (s .args .rows .now) (c .before .before .before .before .before .before .if1 .left) in
     ((c .before .before .before .stack-room .ensures .1, omega (arith, c .before .if2 .left, c .before .before .wide2 .ensures .0, c .before .before .before .stack-room .ensures .0)), sym (c .before .before .before .before .before .before .before .wide .ensures .0) ∙ sym k, omega (arith, k, c .before .before .before .before .before .before .if1 .left, s .pre .0), s .pre .1)
 
+-- what load_held said of the rows held
+module _ (x : tie.After-load-held) where
+  abbrev start : tie.Start
+  start = x .before .before .before .before .before .before .before .before .before
+
+  abbrev carried : Carried
+  carried = start .args .c
+
+  abbrev rows : List Row
+  rows = start .args .rows .now
+
+  abbrev pool : List ℤ
+  pool = start .args .pool .now
+
+  abbrev rows′ : List Row
+  rows′ = x .load-held .last .0
+
+  counted : x .before .before .before .before .before .before .before .before .wide .result ≡ carried .count
+  counted = x .before .before .before .before .before .before .before .before .wide .ensures .0
+
+  count-lent : carried .count ≤ length rows
+  count-lent = omega (arith, x .before .before .before .before .before .before .before .if1 .left, counted)
+
+  kept : length rows′ ≡ length (take (carried .count) rows)
+  kept = let e = counted in rw e at (x .load-held .kept .0)
+
+  told : {r : Loaded} → x .load-held .result ≡ r → Loads carried (take (carried .count) rows) pool r rows′
+  told q = let e = counted in subst (λ r. Loads carried (take (carried .count) rows) pool r rows′) q (rw e at (x .load-held .ensures))
+
+enum-known-t : tie.Need-enum-known-t
+enum-known-t c = search needs
+
+enum-told : tie.Need-enum-told
+enum-told c = search needs
+
 same-length : tie.Need-same-length
 same-length c = search needs
 
 returns-3 : tie.Need-returns-3
-returns-3 c =
-    let s = c .before .before .before .before .before .before .before .before .before .before in
-    let e = c .before .before .before .before .before .before .before .before .before .wide .ensures .0 in
-    let l = c .before .load-held in
-    let k = rw e at (l .kept .0) in
-    let h = rw e at (l .ensures) in
-    rw e (front-loads (s .args .c) (s .args .rows .now) (s .args .pool .now) (omega (arith, c .before .before .before .before .before .before .before .before .if1 .left)) (s .pre .0) (c .before .before .before .before .before .stack-room .ensures .1) (l .last .0) k (l .result) h)
+returns-3 c = let x = c .before .before .before in front-none (carried x) (rows x) (pool x) (count-lent x) (told x (c .enum-told .given .1))
+
+same-length-2 : tie.Need-same-length-2
+same-length-2 c = search needs
+
+returns-4 : tie.Need-returns-4
+returns-4 c =
+    let x = c .before .before .before .before in
+    let e = counted x in
+    rw e (front-loads (carried x) (rows x) (pool x) (count-lent x) (start x .pre .0) (x .before .before .before .before .stack-room .ensures .1) (rows′ x) (kept x) _ (told x (c .before .t .given .1)))
 
 pub load-spec : {M : Type 1} → statement M
 load-spec =
@@ -57,8 +106,13 @@ load-spec =
     stack-room-requires
     wide-requires-2
     returns-2
+    cast-entries
     slice-relend-prefix-load-held
     slice-aggregate-load-held
     load-held-requires
+    enum-known-t
+    enum-told
     same-length
-    returns-3)
+    returns-3
+    same-length-2
+    returns-4)
