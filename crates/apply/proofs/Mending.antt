@@ -55,7 +55,7 @@ unfolding Lawful
 lawful-within vars zero h e l = true-false refl (sym e)
 lawful-within vars (suc zero) h e l = true-false refl (sym e)
 lawful-within vars (suc (suc zero)) h e l = witness-within vars (h .lits) (h .witness) (l .1)
-lawful-within vars (suc (suc (suc p))) h e l = absurd l
+lawful-within vars (suc (suc (suc p))) h e l = let z = eqb-true (suc (suc (suc p))) 2 e in absurd (omega arith)
 
 stacked-within : (vars : ℕ) (pool : List ℤ) {rows : List Row} → All (λ r. Lawful vars (place-of r) (held pool r)) rows → all (within vars) (clauses 2 pool rows) ≡ true
 unfolding only

@@ -18,7 +18,7 @@ use Rattle.rules.proofs.Checks.{then-left, then-right, need-true, flaw-clause}
 use Rattle.table.specs.Spelled.{Row, row-at, id-of, held, clauses, held-rows, spelled, Fit}
 use Rattle.writes.specs.Moved.{Moved, New, Weakenable}
 use Rattle.table.specs.declared.Table.{Table}
-use Rattle.table.proofs.Readers.{count-held, words-held}
+use Rattle.table.proofs.Readers.{count-held, gone-most, words-held}
 use Rattle.rules.specs.Lists.{any}
 use Rattle.rules.proofs.Lists.{and-both}
 use Rattle.judge.specs.Judged.{RowOf, Judges}
@@ -80,7 +80,7 @@ weakenable {t} {rows} {pool} {stack} fit {i} {k} w ws short o e =
 -- ---- a new clause
 
 pub record NewClause (t : Table) (rows : List Row) (pool : List ℤ) (i : ℕ) (c : List ℤ) : Type 0 where
-  pub entry : t .count < length rows
+  pub entry : t .count < t .entries + t .gone
   pub words : t .words + length c ≤ length pool
   pub new : New t i
   pub clause : is-clause (t .vars) c ≡ true
@@ -92,7 +92,7 @@ module _ {t : Table} {rows : List Row} {pool : List ℤ} {stack : List ℕ} (fit
   -- from the checks that ADD and LEARN share
   new-clause : (at : ℕ) → flaw (t .vars) unseen at c ≡ Passed → new-id st i ≡ Passed → free-entry st ≡ Passed → free-words st (length c) ≡ Passed → NewClause t rows pool i c
   new-clause at a b d e = record {
-    entry = let h = ltb-true (length (everything st)) (length rows) (need-true _ _ d) in omega (arith, count-held fit);
+    entry = let h = ltb-true (length (everything st)) (t .entries) (need-true _ _ d) in omega (arith, count-held fit, gone-most fit);
     words = let h = leb-true (room (everything st) + length c) (length pool) (need-true _ _ e) in omega (arith, words-held fit);
     new = (ltb-true (t .highest) i (need-true _ _ b), known);
     clause = flaw-clause (t .vars) at c short a;
