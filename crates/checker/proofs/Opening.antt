@@ -54,7 +54,7 @@ module _ (vars : ℕ) (entries : List Entry) (pool : List ℤ) (k : check-open v
   most : (length entries ≤ 1024) × (length pool ≤ 8192)
   most = lent-most (length entries) (length pool) fits
 
-  empty-fits : Fit (working.empty vars) (map row-of entries) pool (replicate 1024 0)
+  empty-fits : Fit (working.empty vars (length (map row-of entries))) (map row-of entries) pool (replicate 1024 0)
   empty-fits =
       let m : length (map row-of entries) ≡ length entries = length-map entries row-of in
       let ids : List ℕ = replicate 1024 0 in
@@ -66,8 +66,8 @@ module _ (vars : ℕ) (entries : List Entry) (pool : List ℤ) (k : check-open v
   spells-opened =
       let m : length (map row-of entries) ≡ length entries = length-map entries row-of in
       let f = fits in
-      let s = stored-is-state empty-fits (map row-of entries) refl refl in
-      let e = stored-spells empty-fits (map row-of entries) refl refl ∙ working.empty-spelled vars (map row-of entries) pool (replicate 1024 0) ∙ ap (λ n. opened vars n (length pool)) m in
+      let s = stored-is-state empty-fits refl (map row-of entries) refl refl in
+      let e = stored-spells empty-fits refl (map row-of entries) refl refl ∙ working.empty-spelled vars (map row-of entries) pool (replicate 1024 0) ∙ ap (λ n. opened vars n (length pool)) m in
       rw (f, s) (ap some e)
 
 -- what opening by sizes says of tables of those sizes

@@ -27,7 +27,9 @@ use Rattle.apply.specs.Applied.{unless-refused, Wrote}
 use Rattle.apply.specs.declared.Stepped.{Stepped}
 use Rattle.apply.specs.declared.Written.{Written}
 use Rattle.apply.specs.declared.Written.the-variants.{Nothing, Tables, Model}
+use Rattle.writes.specs.Room.{Squeezed}
 use Rattle.steps.specs.Steps.{Steps, writes}
+use Rattle.steps.proofs.Kept.{entries-kept}
 use Rattle.checker.specs.Calls.{judged}
 use Rattle.checker.specs.Running.{Running, left-with, stored-with}
 
@@ -84,7 +86,7 @@ unloaded c rows pool n frame model k =
 
 -- ---- a state, loaded and stepped
 
-module _ (c : Carried) (rows : List Row) (pool : List ℤ) {t : Table} {rows₁ : List Row} (is : is-state c rows pool ≡ true) (fit : Fit t rows₁ pool (c .stack)) (same : working.spelled t rows₁ pool (c .stack) ≡ state-of c rows pool)
+module _ (c : Carried) (rows : List Row) (pool : List ℤ) {t : Table} {rows₁ : List Row} (is : is-state c rows pool ≡ true) (fit : Fit t rows₁ pool (c .stack)) (same : working.spelled t rows₁ pool (c .stack) ≡ state-of c rows pool) (long : length rows₁ ≡ length rows)
     {frame : List ℤ} {s : Stepped} {rows₂ : List Row} {pool₂ : List ℤ} {stack₂ : List ℕ} {model₀ words : List ℕ} (st : Steps t rows₁ pool (c .stack) frame s rows₂ pool₂ stack₂ model₀ words) where
   abbrev out : Outcome
   out = outcome (state-of c rows pool) frame
@@ -115,9 +117,10 @@ module _ (c : Carried) (rows : List Row) (pool : List ℤ) {t : Table} {rows₁ 
       let wk = w .same-stack in
       (wp, sym same ∙ (rw (wt, wr, wp, wk) at after-is))
 
-  long : length rows₁ ≡ length rows
+  -- as many clauses may be held as entries are lent
+  entries-are : s .table .entries ≡ length rows
   unfolding state-of
-  long = ap (λ (x : State). x .entries) same
+  entries-are = ap (λ (x : State). x .entries) (st .state) ∙ entries-kept (working.spelled t rows₁ pool (c .stack)) frame ∙ ap (λ (x : State). x .entries) same
 
   written-is : (w : Written) → s .written ≡ w → unless-refused (writes (parse frame)) (s .answer) ≡ w
   written-is w e = sym (st .told) ∙ e
@@ -146,24 +149,25 @@ module _ (c : Carried) (rows : List Row) (pool : List ℤ) {t : Table} {rows₁ 
       let w : Wrote (out .handed) model₀ words = subst (λ x. Wrote (outcome x frame .handed) model₀ words) same (st .handed) in
       left-alone (λ d. apart-model (sym e ∙ d)) k model words (h model₀ words w model)
 
-  -- the rows held go back
-  pub ran-tables : s .written ≡ Tables → length rows₂ ≡ length rows₁ → (model : List ℕ) → Running c rows pool frame model (stored-with (s .answer) (s .table) stack₂) rows₂ pool₂ model
-  ran-tables e k model =
-      let n = s .table .count in
-      let f = st .fit in
-      let few : n ≤ length rows₂ = f .rows-fit in
-      let got : length (take n rows₂) ≡ n = length-take-le n rows₂ few in
-      let back : List Row = over rows (take n rows₂) in
-      let size : length back ≡ length rows₂ = length-over rows (take n rows₂) (omega (arith, got, few, k, long)) ∙ sym (k ∙ long) in
-      let front : take n back ≡ take n rows₂ = take-over rows rows₂ n few in
+  -- the rows held go back, without those whose clause is gone
+  pub ran-tables : s .written ≡ Tables → length rows₂ ≡ length rows₁ → {u : Table} {rows₃ : List Row} → Squeezed (s .table) rows₂ pool₂ stack₂ u rows₃ → (model : List ℕ) → Running c rows pool frame model (stored-with (s .answer) u stack₂) rows₃ pool₂ model
+  ran-tables e k {u} {rows₃} q model =
+      let n = u .count in
+      let f = q .fit in
+      let few : n ≤ length rows₃ = f .rows-fit in
+      let got : length (take n rows₃) ≡ n = length-take-le n rows₃ few in
+      let back : List Row = over rows (take n rows₃) in
+      let sized : u .entries ≡ length rows = ap (λ (x : State). x .entries) (q .same) ∙ entries-are in
+      let size : length back ≡ u .entries = length-over rows (take n rows₃) (omega (arith, got, few, q .long, k, long)) ∙ sym sized in
+      let front : take n back ≡ take n rows₃ = take-over rows rows₃ n few in
       let p = paper in
       let h : out .handed ≡ untouched = subst (λ w. Told w (out .handed)) e handed-is in
-      let good = stored-is-state f back front size in
+      let good = stored-is-state f (q .none-gone) back front size in
       record {
         answered = rw p answer-is;
-        bounded = omega (arith, few, k, long);
-        kept = k ∙ long;
-        state = λ o d. let q = some-one (sym p ∙ d) in rw good (ap some (stored-spells f back front size ∙ after-is ∙ ap (λ (x : Outcome). x .state) q));
+        bounded = omega (arith, few, q .long, k, long);
+        kept = q .long ∙ k ∙ long;
+        state = λ o d. let z = some-one (sym p ∙ d) in rw good (ap some (stored-spells f (q .none-gone) back front size ∙ q .same ∙ after-is ∙ ap (λ (x : Outcome). x .state) z));
         handed = rw (p, h) refl;
         left = λ d. absurd (d (written-is Tables e));
       }

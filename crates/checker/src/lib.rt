@@ -86,7 +86,10 @@ fn run(rows: &mut [[u32; 5]], pool: &mut [i32], c: Carried, frame: &[i32], model
     let written = s.written;
     match written {
         Written::Nothing => left(answer, c),
-        Written::Tables => stored(answer, table, stack),
+        Written::Tables => {
+            let whole = writes::squeeze(rows, table);
+            stored(answer, whole, stack)
+        }
         Written::Model => {
             write_model(model, words);
             left(answer, c)

@@ -1,2 +1,3 @@
 -- From an application to what a frame's words come to.
 pub mod Stepping
+pub mod Kept

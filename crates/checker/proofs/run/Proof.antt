@@ -3,6 +3,7 @@ use mathlib.Core.Path.{_≡_, subst, _∙_}
 use mathlib.Core.Bool.{true, false}
 use mathlib.Core.List.{List}
 use lib.IntN.{ℤ}
+use lib.ListN.{length}
 use Rattle.table.specs.Spelled as spelled
 use Rattle.table.specs.Spelled.{Row, Fit}
 use Rattle.table.specs.declared.Table.{Table}
@@ -37,6 +38,9 @@ module _ (x : tie.After-known-told) where
 
   working : (is-state carried rows pool ≡ true) × Fit t rows₁ pool (carried .stack) × (spelled.spelled t rows₁ pool (carried .stack) ≡ state-of carried rows pool)
   working = subst (λ l. Loads carried rows pool l rows₁) (x .before .t .given .1) (x .before .before .before .before .load .ensures)
+
+  long : length rows₁ ≡ length rows
+  long = x .before .before .before .before .load .kept .0
 
 load-requires : tie.Need-load-requires
 load-requires c κs = search needs
@@ -74,6 +78,9 @@ left-requires-2 c κs = search needs
 enum-told-3 : tie.Need-enum-told-3
 enum-told-3 c = search needs
 
+squeeze-requires : tie.Need-squeeze-requires
+squeeze-requires c κs = c .before .before .before .before .before .before .before .step .ensures .fit .rows-fit
+
 stored-requires : tie.Need-stored-requires
 stored-requires c κs = search needs
 
@@ -93,16 +100,19 @@ same-length-4 : tie.Need-same-length-4
 same-length-4 c = search needs
 
 returns-2 : tie.Need-returns-2
-returns-2 c = let x = c .before .before .before .before .before .before .before .before .before .before .before .before .before in rw (c .left2 .ensures) (ran-nothing (carried x) (rows x) (pool x) (working x .0) (working x .1) (working x .2) (c .before .before .before .before .before .before .before .step .ensures) (c .before .enum-told2 .given .1) (c .before .before .before .before .before .before .before .step .kept .0) _)
+returns-2 c = let x = c .before .before .before .before .before .before .before .before .before .before .before .before .before in rw (c .left2 .ensures) (ran-nothing (carried x) (rows x) (pool x) (working x .0) (working x .1) (working x .2) (long x) (c .before .before .before .before .before .before .before .step .ensures) (c .before .enum-told2 .given .1) (c .before .before .before .before .before .before .before .step .kept .0) _)
 
 same-length-5 : tie.Need-same-length-5
-same-length-5 c = search needs
+same-length-5 c = let st = c .before .before .before .before .before .before .before .before .before .before .step in c .before .before .squeeze .ensures _ _ (st .ensures .fit) .long ∙ st .kept .0 ∙ long (c .before .before .before .before .before .before .before .before .before .before .before .before .before .before .before .before)
 
 same-length-6 : tie.Need-same-length-6
 same-length-6 c = search needs
 
 returns-3 : tie.Need-returns-3
-returns-3 c = let x = c .before .before .before .before .before .before .before .before .before .before .before .before .before in rw (c .stored .ensures) (ran-tables (carried x) (rows x) (pool x) (working x .0) (working x .1) (working x .2) (c .before .before .before .before .before .before .before .step .ensures) (c .before .enum-told3 .given .1) (c .before .before .before .before .before .before .before .step .kept .0) _)
+returns-3 c =
+    let x = c .before .before .before .before .before .before .before .before .before .before .before .before .before .before .before .before in
+    let st = c .before .before .before .before .before .before .before .before .before .before .step in
+    rw (c .stored .ensures) (ran-tables (carried x) (rows x) (pool x) (working x .0) (working x .1) (working x .2) (long x) (st .ensures) (c .before .before .before .before .enum-told3 .given .1) (st .kept .0) (c .before .before .squeeze .ensures _ _ (st .ensures .fit)) _)
 
 same-length-7 : tie.Need-same-length-7
 same-length-7 c = c .before .before .before .before .before .before .before .before .before .before .before .step .kept .0 ∙ c .before .before .before .before .before .before .before .before .before .before .before .before .before .before .before .before .before .before .before .before .before .load .kept .0
@@ -114,7 +124,7 @@ same-length-9 : tie.Need-same-length-9
 same-length-9 c = search needs
 
 returns-4 : tie.Need-returns-4
-returns-4 c = let x = c .before .before .before .before .before .before .before .before .before .before .before .before .before .before .before .before .before in rw (c .left3 .ensures, c .before .before .before .write-model .ensures) (ran-model (carried x) (rows x) (pool x) (working x .0) (working x .1) (working x .2) (c .before .before .before .before .before .before .before .before .before .before .before .step .ensures) (c .before .before .before .before .before .enum-told4 .given .1) (c .before .before .before .before .before .before .before .before .before .before .before .step .kept .0) _)
+returns-4 c = let x = c .before .before .before .before .before .before .before .before .before .before .before .before .before .before .before .before .before in rw (c .left3 .ensures, c .before .before .before .write-model .ensures) (ran-model (carried x) (rows x) (pool x) (working x .0) (working x .1) (working x .2) (long x) (c .before .before .before .before .before .before .before .before .before .before .before .step .ensures) (c .before .before .before .before .before .enum-told4 .given .1) (c .before .before .before .before .before .before .before .before .before .before .before .step .kept .0) _)
 
 pub run-spec : {M : Type 1} → statement M
 run-spec =
@@ -132,6 +142,7 @@ run-spec =
     enum-told-2
     left-requires-2
     enum-told-3
+    squeeze-requires
     stored-requires
     enum-told-4
     write-model-requires
