@@ -24,7 +24,7 @@ use Rattle.parts.specs.declared.Ran.{Ran}
 
 -- ---- sizes
 
-pub sized : (rows : List Row) (pool : List ℤ) (r : Reader) (frame : List ℤ) → in-sizes rows pool r frame ≡ true → Sized rows pool r frame
+pub sized : (rows : List Row) (pool : List ℤ) (r : Reader) (frame : List ℤ) → in-sizes rows pool r frame ≡ true → Sized (length rows) pool r frame
 sized rows pool r frame h =
     let z = and-left (lent (length rows) (length pool)) (is-line r (length frame)) h in
     let k = lent-most (length rows) (length pool) z in
@@ -38,11 +38,11 @@ sized rows pool r frame h =
 
 -- ---- the copy: its first rows are the table's
 
-vacant-long : length vacant-rows ≡ 1024
-vacant-long = length-replicate {A = Row} 1024 (replicate {A = ℕ} 5 0)
+vacant-long : length vacant-rows ≡ 1280
+vacant-long = length-replicate {A = Row} 1280 (replicate {A = ℕ} 5 0)
 
 module _ (rows : List Row) (h : length rows ≤ 1024) where
-  pub copy-long : length (over vacant-rows rows) ≡ 1024
+  pub copy-long : length (over vacant-rows rows) ≡ 1280
   copy-long = length-over vacant-rows rows (omega (arith, vacant-long)) ∙ vacant-long
 
   pub copy-front : take (length rows) (over vacant-rows rows) ≡ rows
@@ -54,8 +54,8 @@ module _ (rows : List Row) (pool : List ℤ) (c : Carried) (r : Reader) (frame :
   pub gives : in-sizes rows pool r frame ≡ true → {q : Ran} {rows′ : List Row} {pool′ : List ℤ} {frame′ : List ℤ} {out′ : List ℕ} → length pool′ ≡ length pool → length frame′ ≡ length frame
       → RanOn rows pool c r frame part out q rows′ pool′ frame′ out′ → Giving rows pool c r frame part out (q .given) (over rows (take (q .count) rows′)) pool′ frame′ out′
   gives t {q} {rows′} {pool′} {frame′} {out′} p f s =
-      let got : length (take (q .count) rows′) ≡ q .count = length-take-le (q .count) rows′ (omega (arith, s .bounded, s .kept)) in
-      let long : length (over rows (take (q .count) rows′)) ≡ length rows = length-over rows (take (q .count) rows′) (omega (arith, got, s .bounded)) in
+      let got : length (take (q .count) rows′) ≡ q .count = length-take-le (q .count) rows′ (s .bounded .1) in
+      let long : length (over rows (take (q .count) rows′)) ≡ length rows = length-over rows (take (q .count) rows′) (omega (arith, got, s .bounded .0)) in
       record {
         answered = rw t (s .answered);
         fed = λ st d.

@@ -15,6 +15,7 @@ use Rattle.rules.specs.declared.Answer.the-variants.{Accepted, Refused}
 use Rattle.rules.specs.declared.Fault.the-variants.{NoState}
 use Rattle.slices.specs.Writes.{over}
 use Rattle.table.specs.Spelled.{Row}
+use Rattle.table.specs.declared.Table.{Table}
 use Rattle.lent.specs.State.{spelled}
 use Rattle.lent.specs.Stored.{carried-of}
 use Rattle.lent.specs.declared.Carried.{Carried}
@@ -59,11 +60,12 @@ pub record Giving (rows : List Row) (pool : List ℤ) (c : Carried) (r : Reader)
 
 -- ---- the same on rows of their own, of which `count` go back
 
+-- room for a quarter more than the 1,024 entries that may be lent
 abbrev pub vacant-rows : List Row
-vacant-rows = replicate 1024 (replicate 5 0)
+vacant-rows = replicate 1280 (replicate 5 0)
 
-pub record Sized (rows : List Row) (pool : List ℤ) (r : Reader) (frame : List ℤ) : Type 0 where
-  pub rows-most : length rows ≤ 1024
+pub record Sized (n : ℕ) (pool : List ℤ) (r : Reader) (frame : List ℤ) : Type 0 where
+  pub rows-most : n ≤ 1024
   pub pool-most : length pool ≤ 8192
   pub digits-most : r .digits ≤ 32768
   pub frame-least : 4096 ≤ length frame
@@ -71,13 +73,12 @@ pub record Sized (rows : List Row) (pool : List ℤ) (r : Reader) (frame : List 
 abbrev pub left-with : Carried → Reader → Ran
 left-with c r = record { given = refused-with c r; count = 0 }
 
-abbrev pub stored-with : Fed → List ℕ → Ran
-stored-with f stack = record { given = record { answer = Accepted 0; carried = carried-of (f .table) stack; reader = f .reader; taken = f .from; written = f .at }; count = f .table .count }
+abbrev pub stored-with : Fed → Table → List ℕ → Ran
+stored-with f t stack = record { given = record { answer = Accepted 0; carried = carried-of t stack; reader = f .reader; taken = f .from; written = f .at }; count = t .count }
 
 pub record RanOn (rows : List Row) (pool : List ℤ) (c : Carried) (r : Reader) (frame : List ℤ) (part out : List ℕ) (q : Ran) (rows′ : List Row) (pool′ : List ℤ) (frame′ : List ℤ) (out′ : List ℕ) : Type 0 where
   pub answered : q .given .answer ≡ answer-to (spelled c rows pool)
-  pub bounded : q .count ≤ length rows
-  pub kept : length rows′ ≡ length rows
+  pub bounded : (q .count ≤ length rows) × (q .count ≤ length rows′)
   pub fed : (s : State) → spelled c rows pool ≡ some s → (s′ : State) × (spelled (q .given .carried) (over rows (take (q .count) rows′)) pool′ ≡ some s′)
       × lines.Fed part 0 (q .given .taken) (run-of r frame s out 0) (run-of (q .given .reader) frame′ s′ out′ (q .given .written)) (length out) 0 (q .given .written)
   pub left : spelled c rows pool ≡ none → (q ≡ left-with c r) × (pool′ ≡ pool) × (frame′ ≡ frame) × (out′ ≡ out)

@@ -2,7 +2,7 @@
 ghost use mathlib.Core.Path.{_≡_};
 ghost use mathlib.Core.Bool.{true, _&&_};
 ghost use Prim.Native.Nat.{_≤_};
-ghost use lib.ListN.{length};
+ghost use lib.ListN.{length, take};
 ghost use Rattle.rules.specs.Answers.{lent};
 ghost use Rattle.slices.specs.Writes.{over};
 ghost use Rattle.parts.specs.Giving.{Giving, RanOn, Sized, in-sizes, is-line, left-with, refused-with, stored-with, vacant-rows};
@@ -12,6 +12,7 @@ use lines::Reader;
 use load::Loaded;
 use rules::Answer;
 use rules::Fault;
+use table::Table;
 
 // The answer, what is carried and read after the part, how many of its bytes were taken, and how many are written to the out buffer.
 pub struct Given {
@@ -52,10 +53,9 @@ fn left(c: Carried, r: Reader) -> Ran
 }
 
 // The rows held go back, and what is carried is new.
-fn stored(fed: Fed, stack: [u32; 1024]) -> Ran
-    ensures { λ q. ⌜ q ≡ stored-with fed stack ⌝ }
+fn stored(fed: Fed, t: Table, stack: [u32; 1024]) -> Ran
+    ensures { λ q. ⌜ q ≡ stored-with fed t stack ⌝ }
 {
-    let t = fed.table;
     let reader = fed.reader;
     Ran {
         given: Given {
@@ -76,9 +76,10 @@ fn stored(fed: Fed, stack: [u32; 1024]) -> Ran
     }
 }
 
-// A part on rows of their own, which loading may arrange.
+// A part on rows of their own, of which the first n are the table's: loading may arrange them, and there are more, so that few removals close a gap.
 fn run(
     rows: &mut [[u32; 5]],
+    n: usize,
     pool: &mut [i32],
     c: Carried,
     r: Reader,
@@ -86,23 +87,25 @@ fn run(
     part: &[u8],
     out: &mut [u8],
 ) -> Ran
-    requires { ⌜ Sized (now rows) (now pool) r (now frame) ⌝ }
-    ensures { λ q. ⌜ RanOn (now (rows .entry)) (now (pool .entry)) c r (now (frame .entry)) (now (part .entry)) (now (out .entry)) q (now (rows .exit)) (now (pool .exit)) (now (frame .exit)) (now (out .exit)) ⌝ }
+    requires { ⌜ (n ≤ length (now rows)) × (length (now rows) ≤ 2048) × Sized n (now pool) r (now frame) ⌝ }
+    ensures { λ q. ⌜ RanOn (take n (now (rows .entry))) (now (pool .entry)) c r (now (frame .entry)) (now (part .entry)) (now (out .entry)) q (now (rows .exit)) (now (pool .exit)) (now (frame .exit)) (now (out .exit)) ⌝ }
 {
-    let Loaded::Working(t) = load::load(rows, pool, c) else {
+    let Loaded::Working(t) = load::load(&mut rows[..n], pool, c) else {
         return left(c, r);
     };
     let mut stack = c.stack;
     let fed = feed::feed(part, 0, r, frame, rows, pool, &mut stack, t, out, 0);
-    stored(fed, stack)
+    let table = fed.table;
+    let whole = writes::squeeze(rows, table);
+    stored(fed, whole, stack)
 }
 
-// The rows of a table, apart from it.
-fn copied(rows: &[[u32; 5]]) -> [[u32; 5]; 1024]
+// The rows of a table, apart from it, and a quarter more.
+fn copied(rows: &[[u32; 5]]) -> [[u32; 5]; 1280]
     requires { ⌜ length (now rows) ≤ 1024 ⌝ }
     ensures { λ r. ⌜ r ≡ over vacant-rows (now (rows .entry)) ⌝ }
 {
-    let mut own = [[0u32; 5]; 1024];
+    let mut own = [[0u32; 5]; 1280];
     slices::write_rows(&mut own, rows);
     own
 }
@@ -122,7 +125,7 @@ fn run_apart(
 {
     let n = rows.len();
     let mut own = copied(rows);
-    let ran = run(&mut own[..n], pool, c, r, frame, part, out);
+    let ran = run(&mut own, n, pool, c, r, frame, part, out);
     let count = ran.count;
     slices::write_rows(rows, &own[..count]);
     let given = ran.given;

@@ -85,9 +85,9 @@ unfolding run
 going-start r frame z rows pool a b w =
     let ids : List ℕ = replicate 1024 0 in
     let n : length ids ≡ 1024 = length-replicate {A = ℕ} 1024 0 in
-    let fit : Fit (working.empty 2048) rows pool ids = working.empty-fit 2048 rows pool ids (omega arith) (omega arith) (omega arith) (omega arith) (omega (arith, n)) in
-    let is = stored-is-state fit rows refl refl in
-    let spelt = stored-spells fit rows refl refl ∙ working.empty-spelled 2048 rows pool ids in
+    let fit : Fit (working.empty 2048 (length rows)) rows pool ids = working.empty-fit 2048 rows pool ids (omega arith) (omega arith) (omega arith) (omega arith) (omega (arith, n)) in
+    let is = stored-is-state fit refl rows refl refl in
+    let spelt = stored-spells fit refl rows refl refl ∙ working.empty-spelled 2048 rows pool ids in
     let none-read = z .0 in
     ([], record { now-state = opened 2048 1024 8192; spells = rw (a, b, w, none-read, is) (ap some (rw (← a, ← b) spelt)); through = record { line = fresh-line (r .digits) (r .word) (r .spoilt) z; state = refl } })
   where

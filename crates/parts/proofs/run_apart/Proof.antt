@@ -1,26 +1,23 @@
 -- `parts::run_apart` meets its contract.
-use mathlib.Core.Path.{_≡_, sym, ap, subst, _∙_}
-use mathlib.Core.List.{List, _++_}
-use Prim.Native.Nat.{_+_, _≤_}
+use mathlib.Core.Path.{_≡_, sym, subst}
 use native.Mathlib.Omega.{arith}
-use lib.ListN.{length, take, drop, length-append}
-use lib.Seq.{length-take-le, take-append-le}
-use Rattle.table.specs.Spelled.{Row}
+use lib.ListN.{length, take}
+use lib.Seq.{length-take-le}
 use Rattle.parts.specs.Giving.{Sized, RanOn}
 use Rattle.parts.proofs.Apart.{sized, copy-long, copy-front, gives}
 use borrow.Author.Needs.{needs}
 use Rattle.parts.proofs.run_apart.Statement.{statement}
 use Rattle.parts.proofs.run_apart.Tie as tie
 
-sizes : (x : tie.After-copied-arg) → Sized (x .before .before .before .args .rows .now) (x .before .before .before .args .pool .now) (x .before .before .before .args .r) (x .before .before .before .args .frame .now)
-sizes x = sized _ _ _ _ (x .before .before .before .pre)
+sizes : (x : tie.After-copied-arg) → Sized (length (x .before .before .before .args .rows .now)) (x .before .before .before .args .pool .now) (x .before .before .before .args .r) (x .before .before .before .args .frame .now)
+sizes x = sized (x .before .before .before .args .rows .now) _ _ _ (x .before .before .before .pre)
 
 -- the part ran on the table's rows
 module _ (x : tie.After-copied) where
   front : take (length (x .before .before .before .before .args .rows .now)) (x .copied .result) ≡ x .before .before .before .before .args .rows .now
   front = rw (x .copied .ensures) (copy-front (x .before .before .before .before .args .rows .now) (sizes (x .before) .rows-most))
 
-  long : length (x .copied .result) ≡ 1024
+  long : length (x .copied .result) ≡ 1280
   long = rw (x .copied .ensures) (copy-long (x .before .before .before .before .args .rows .now) (sizes (x .before) .rows-most))
 
 module _ (y : tie.After-run) where
@@ -28,47 +25,30 @@ module _ (y : tie.After-run) where
   x = y .before .before .before .before .before
 
   on-rows : RanOn (x .before .before .before .before .args .rows .now) (x .before .before .before .before .args .pool .now) (x .before .before .before .before .args .c) (x .before .before .before .before .args .r) (x .before .before .before .before .args .frame .now) (x .before .before .before .before .args .part .now) (x .before .before .before .before .args .out .now)
-      (y .run .result) (y .run .last .0) (y .run .last .1 .0) (y .run .last .1 .1 .1 .1 .0) (y .run .last .1 .1 .1 .1 .1 .1 .0)
+      (y .run .result) (y .run .last .0) (y .run .last .1 .1 .0) (y .run .last .1 .1 .1 .1 .1 .0) (y .run .last .1 .1 .1 .1 .1 .1 .1 .0)
   on-rows = subst (λ l. RanOn l (x .before .before .before .before .args .pool .now) (x .before .before .before .before .args .c) (x .before .before .before .before .args .r) (x .before .before .before .before .args .frame .now) (x .before .before .before .before .args .part .now) (x .before .before .before .before .args .out .now)
-      (y .run .result) (y .run .last .0) (y .run .last .1 .0) (y .run .last .1 .1 .1 .1 .0) (y .run .last .1 .1 .1 .1 .1 .1 .0)) (front x) (y .run .ensures)
+      (y .run .result) (y .run .last .0) (y .run .last .1 .1 .0) (y .run .last .1 .1 .1 .1 .1 .0) (y .run .last .1 .1 .1 .1 .1 .1 .1 .0)) (front x) (y .run .ensures)
 
-  few : y .run .result .count ≤ length (y .run .last .0)
-  few = omega (arith, on-rows .bounded, on-rows .kept)
-
-  -- the copy's rows behind those that ran
-  abbrev rest : List Row
-  rest = drop (length (x .before .before .before .before .args .rows .now)) (x .copied .result)
-
-  all-long : length (y .run .last .0 ++ rest) ≡ length (y .run .last .0) + length rest
-  all-long = length-append (y .run .last .0) rest
-
-  -- what goes back
-  back : take (y .run .result .count) (y .run .last .0 ++ rest) ≡ take (y .run .result .count) (y .run .last .0)
-  back = take-append-le _ _ rest few
-
-  back-long : length (take (y .run .result .count) (y .run .last .0 ++ rest)) ≡ y .run .result .count
-  back-long = length-take-le _ _ (omega (arith, few, all-long))
+  back-long : length (take (y .run .result .count) (y .run .last .0)) ≡ y .run .result .count
+  back-long = length-take-le _ _ (on-rows .bounded .1)
 
 copied-requires : tie.Need-copied-requires
 copied-requires c κs = sizes c .rows-most
 
-array-borrow-prefix-own : tie.Need-array-borrow-prefix-own
-array-borrow-prefix-own c = omega (arith, sizes (c .before) .rows-most, long c)
-
 slice-aggregate-run : tie.Need-slice-aggregate-run
-slice-aggregate-run c = sym (ap length (front (c .before)))
+slice-aggregate-run c = search needs
 
 run-requires : tie.Need-run-requires
-run-requires c κs = let z = sizes (c .before .before .before .before .before) in record { rows-most = omega (arith, z .rows-most, ap length (front (c .before .before .before .before))); pool-most = z .pool-most; digits-most = z .digits-most; frame-least = z .frame-least }
+run-requires c κs = let z = sizes (c .before .before .before .before .before) in let n = long (c .before .before .before .before) in (omega (arith, z .rows-most), omega arith, z)
 
 array-share-prefix-own : tie.Need-array-share-prefix-own
-array-share-prefix-own c = let y = c .before .before .before .before .before .before in omega (arith, few y, all-long y)
+array-share-prefix-own c = search needs
 
 slice-aggregate-write-rows : tie.Need-slice-aggregate-write-rows
 slice-aggregate-write-rows c = sym (back-long (c .before .before .before .before .before .before .before))
 
 write-rows-requires : tie.Need-write-rows-requires
-write-rows-requires c κs = let y = c .before .before .before .before .before .before .before in omega (arith, back-long y, on-rows y .bounded)
+write-rows-requires c κs = let y = c .before .before .before .before .before .before .before in omega (arith, back-long y, on-rows y .bounded .0)
 
 same-length : tie.Need-same-length
 same-length c = search needs
@@ -86,14 +66,13 @@ returns : tie.Need-returns
 returns c =
     let y = c .before .before .before .before .before .before .before .before .before .before in
     let a = y .before .before .before .before .before .before .before .before .before .args in
-    rw (c .before .before .write-rows .ensures, back y) (gives (a .rows .now) (a .pool .now) (a .c) (a .r) (a .frame .now) (a .part .now) (a .out .now) (y .before .before .before .before .before .before .before .before .before .pre) (y .run .kept .1 .0) (y .run .kept .1 .1 .1 .1 .0) (on-rows y))
+    rw (c .before .before .write-rows .ensures) (gives (a .rows .now) (a .pool .now) (a .c) (a .r) (a .frame .now) (a .part .now) (a .out .now) (y .before .before .before .before .before .before .before .before .before .pre) (y .run .kept .1 .1 .0) (y .run .kept .1 .1 .1 .1 .1 .0) (on-rows y))
 
 pub run-apart-spec : {M : Type 1} → statement M
 run-apart-spec =
     tie.close
     (tie.spec
     copied-requires
-    array-borrow-prefix-own
     slice-aggregate-run
     run-requires
     array-share-prefix-own
