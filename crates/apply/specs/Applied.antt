@@ -14,28 +14,14 @@ use Rattle.words.specs.Words.{assigned}
 use Rattle.table.specs.Spelled.{Row, spelled}
 use Rattle.writes.specs.Moved.{Moved}
 use Rattle.table.specs.declared.Table.{Table}
-use Rattle.apply.specs.declared.Stepped.{Stepped}
-use Rattle.apply.specs.declared.Written.{Written}
-use Rattle.apply.specs.declared.Written.the-variants.{Nothing, Tables}
+use Rattle.stepped.specs.Told.{unless-refused}
+use Rattle.stepped.specs.declared.Stepped.{Stepped}
+use Rattle.stepped.specs.declared.Written.the-variants.{Tables}
 
 -- the answer to a frame that hands out no model
 abbrev pub answer-of : Check → Answer
 answer-of Passed = Accepted 0
 answer-of (Failed e) = Refused e
-
-abbrev pub refused-with : Fault → Table → Stepped
-refused-with e t = record { answer = Refused e; table = t; written = Nothing }
-
-abbrev pub accepted-with : Table → Stepped
-accepted-with t = record { answer = Accepted 0; table = t; written = Tables }
-
--- what was written, by what an accepted one writes
-abbrev pub unless-refused : Written → Answer → Written
-unless-refused w (Accepted n) = w
-unless-refused w (Refused e) = Nothing
-
-abbrev pub answered-with : Answer → Written → Table → Stepped
-answered-with a w t = record { answer = a; table = t; written = unless-refused w a }
 
 pub record Same (t : Table) (rows : List Row) (pool : List ℤ) (stack : List ℕ) (t′ : Table) (rows′ : List Row) (pool′ : List ℤ) (stack′ : List ℕ) : Type 0 where
   pub table : t′ ≡ t

@@ -5,64 +5,12 @@ ghost use lib.ListN.{length};
 ghost use Rattle.rules.specs.Frames.{ADD, LEARN, FORGET, PROMOTE, DROP, WEAKEN, RESTORE, SAT, UNSAT};
 ghost use Rattle.rules.specs.Answers.{check};
 ghost use Rattle.table.specs.Spelled.{Fit, spelled};
-ghost use Rattle.apply.specs.Applied.{Answered, Applied, accepted-with, answer-of, answered-with, refused-with};
+ghost use Rattle.apply.specs.Applied.{Answered, Applied, answer-of};
 use judge::Judged;
 use rules::Answer;
 use rules::Check;
-use rules::Fault;
+use stepped::Stepped;
 use table::Table;
-
-// What a frame wrote: an accepted SAT the model buffer, an accepted change the tables, everything else nothing.
-pub enum Written {
-    Nothing,
-    Tables,
-    Model,
-}
-
-// The answer, the numbers beside the tables after it, and what was written.
-pub struct Stepped {
-    pub answer: Answer,
-    pub table: Table,
-    pub written: Written,
-}
-
-pub fn refused(fault: Fault, table: Table) -> Stepped
-    ensures { λ r. ⌜ r ≡ refused-with fault table ⌝ }
-{
-    Stepped {
-        answer: Answer::Refused(fault),
-        table,
-        written: Written::Nothing,
-    }
-}
-
-fn accepted(table: Table) -> Stepped
-    ensures { λ r. ⌜ r ≡ accepted-with table ⌝ }
-{
-    Stepped {
-        answer: Answer::Accepted(0),
-        table,
-        written: Written::Tables,
-    }
-}
-
-// An answer to SAT or UNSAT; `written` is what an accepted one wrote.
-pub fn answered(answer: Answer, written: Written, table: Table) -> Stepped
-    ensures { λ r. ⌜ r ≡ answered-with answer written table ⌝ }
-{
-    match answer {
-        Answer::Accepted(_) => Stepped {
-            answer,
-            table,
-            written,
-        },
-        Answer::Refused(_) => Stepped {
-            answer,
-            table,
-            written: Written::Nothing,
-        },
-    }
-}
 
 // ---- the operations that write: judge, then apply
 
@@ -79,9 +27,9 @@ pub fn add(
 {
     let check = judge::judge_add(rows, pool, stack, t, id, c);
     if let Check::Failed(fault) = check {
-        return refused(fault, t);
+        return stepped::refused(fault, t);
     }
-    accepted(writes::append(rows, pool, t, 0, id, c))
+    stepped::accepted(writes::append(rows, pool, t, 0, id, c))
 }
 
 pub fn learn(
@@ -98,9 +46,9 @@ pub fn learn(
 {
     let check = judge::judge_learn(rows, pool, stack, t, id, c, hints);
     if let Check::Failed(fault) = check {
-        return refused(fault, t);
+        return stepped::refused(fault, t);
     }
-    accepted(writes::append(rows, pool, t, 1, id, c))
+    stepped::accepted(writes::append(rows, pool, t, 1, id, c))
 }
 
 pub fn forget(rows: &mut [[u32; 5]], pool: &[i32], stack: &[u32], t: Table, id: u32) -> Stepped
@@ -109,8 +57,8 @@ pub fn forget(rows: &mut [[u32; 5]], pool: &[i32], stack: &[u32], t: Table, id: 
 {
     let judged = judge::judge_learned(rows, pool, stack, t, id);
     match judged {
-        Judged::Refused(fault) => refused(fault, t),
-        Judged::Accepted(k) => accepted(writes::remove(rows, t, k)),
+        Judged::Refused(fault) => stepped::refused(fault, t),
+        Judged::Accepted(k) => stepped::accepted(writes::remove(rows, t, k)),
     }
 }
 
@@ -120,8 +68,8 @@ pub fn promote(rows: &mut [[u32; 5]], pool: &[i32], stack: &[u32], t: Table, id:
 {
     let judged = judge::judge_learned(rows, pool, stack, t, id);
     match judged {
-        Judged::Refused(fault) => refused(fault, t),
-        Judged::Accepted(k) => accepted(writes::promote(rows, t, k)),
+        Judged::Refused(fault) => stepped::refused(fault, t),
+        Judged::Accepted(k) => stepped::accepted(writes::promote(rows, t, k)),
     }
 }
 
@@ -138,8 +86,8 @@ pub fn drop_clause(
 {
     let judged = judge::judge_drop(rows, pool, stack, t, id, hints);
     match judged {
-        Judged::Refused(fault) => refused(fault, t),
-        Judged::Accepted(k) => accepted(writes::remove(rows, t, k)),
+        Judged::Refused(fault) => stepped::refused(fault, t),
+        Judged::Accepted(k) => stepped::accepted(writes::remove(rows, t, k)),
     }
 }
 
@@ -157,8 +105,8 @@ pub fn weaken(
 {
     let judged = groups::judge_weaken(rows, pool, stack, t, id, w, ws);
     match judged {
-        Judged::Refused(fault) => refused(fault, t),
-        Judged::Accepted(k) => accepted(writes::weaken(rows, pool, stack, t, k, w)),
+        Judged::Refused(fault) => stepped::refused(fault, t),
+        Judged::Accepted(k) => stepped::accepted(writes::weaken(rows, pool, stack, t, k, w)),
     }
 }
 
@@ -168,8 +116,8 @@ pub fn restore(rows: &mut [[u32; 5]], pool: &[i32], stack: &mut [u32], t: Table,
 {
     let judged = judge::judge_restore(rows, pool, stack, t, id);
     match judged {
-        Judged::Refused(fault) => refused(fault, t),
-        Judged::Accepted(k) => accepted(writes::restore(rows, stack, t, k)),
+        Judged::Refused(fault) => stepped::refused(fault, t),
+        Judged::Accepted(k) => stepped::accepted(writes::restore(rows, stack, t, k)),
     }
 }
 

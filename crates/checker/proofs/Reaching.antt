@@ -19,9 +19,9 @@ use Rattle.rules.specs.declared.Fault.the-variants.{NoState}
 use Rattle.rules.proofs.Lists.{by-cases}
 use Rattle.entries.specs.declared.Entry.{Entry}
 use Rattle.lent.specs.declared.Carried.{Carried}
-use Rattle.apply.specs.Applied.{unless-refused}
-use Rattle.apply.specs.declared.Written.{Written}
-use Rattle.apply.specs.declared.Written.the-variants.{Tables}
+use Rattle.stepped.specs.Told.{unless-refused}
+use Rattle.stepped.specs.declared.Written.{Written}
+use Rattle.stepped.specs.declared.Written.the-variants.{Tables}
 use Rattle.steps.specs.Steps.{writes}
 use Rattle.checker.specs.Calls.{opened-with, state-lent, said, answer-to, Opening, Stepping}
 use Rattle.checker.specs.Chains.{Chain, open-first, then-step}

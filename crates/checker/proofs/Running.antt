@@ -23,10 +23,11 @@ use Rattle.table.specs.declared.Table.{Table}
 use Rattle.lent.specs.State.{is-state, state-of, spelled}
 use Rattle.lent.specs.declared.Carried.{Carried}
 use Rattle.lent.proofs.Stored.{stored-is-state, stored-spells}
-use Rattle.apply.specs.Applied.{unless-refused, Wrote}
-use Rattle.apply.specs.declared.Stepped.{Stepped}
-use Rattle.apply.specs.declared.Written.{Written}
-use Rattle.apply.specs.declared.Written.the-variants.{Nothing, Tables, Model}
+use Rattle.stepped.specs.Told.{unless-refused}
+use Rattle.apply.specs.Applied.{Wrote}
+use Rattle.stepped.specs.declared.Stepped.{Stepped}
+use Rattle.stepped.specs.declared.Written.{Written}
+use Rattle.stepped.specs.declared.Written.the-variants.{Nothing, Tables, Model}
 use Rattle.writes.specs.Room.{Squeezed}
 use Rattle.steps.specs.Steps.{Steps, writes}
 use Rattle.steps.proofs.Kept.{entries-kept}

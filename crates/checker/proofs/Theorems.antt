@@ -24,8 +24,9 @@ use Rattle.words.specs.Words.{assigned}
 use Rattle.words.proofs.Assigned.{words-fixed}
 use Rattle.entries.specs.declared.Entry.{Entry}
 use Rattle.lent.specs.declared.Carried.{Carried}
-use Rattle.apply.specs.Applied.{unless-refused, Wrote}
-use Rattle.apply.specs.declared.Written.the-variants.{Tables}
+use Rattle.stepped.specs.Told.{unless-refused}
+use Rattle.apply.specs.Applied.{Wrote}
+use Rattle.stepped.specs.declared.Written.the-variants.{Tables}
 use Rattle.steps.specs.Steps.{writes}
 use Rattle.checker.specs.Calls.{state-lent, said, answer-to, handed-by, Stepping}
 use Rattle.checker.specs.Chains.{Chain}

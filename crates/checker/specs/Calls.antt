@@ -16,8 +16,9 @@ use Rattle.rules.specs.declared.Check.{Check}
 use Rattle.rules.specs.declared.Check.the-variants.{Passed, Failed}
 use Rattle.rules.specs.declared.Fault.{Fault}
 use Rattle.rules.specs.declared.Fault.the-variants.{NoState}
-use Rattle.apply.specs.Applied.{unless-refused, Wrote}
-use Rattle.apply.specs.declared.Written.the-variants.{Tables}
+use Rattle.stepped.specs.Told.{unless-refused}
+use Rattle.apply.specs.Applied.{Wrote}
+use Rattle.stepped.specs.declared.Written.the-variants.{Tables}
 use Rattle.steps.specs.Steps.{writes}
 use Rattle.entries.specs.Lent.{row-of}
 use Rattle.entries.specs.declared.Entry.{Entry}

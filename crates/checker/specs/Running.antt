@@ -15,8 +15,9 @@ use Rattle.rules.specs.declared.Fault.the-variants.{NoState}
 use Rattle.slices.specs.Writes.{over}
 use Rattle.table.specs.Spelled.{Row}
 use Rattle.table.specs.declared.Table.{Table}
-use Rattle.apply.specs.Applied.{unless-refused, Wrote}
-use Rattle.apply.specs.declared.Written.the-variants.{Tables}
+use Rattle.stepped.specs.Told.{unless-refused}
+use Rattle.apply.specs.Applied.{Wrote}
+use Rattle.stepped.specs.declared.Written.the-variants.{Tables}
 use Rattle.steps.specs.Steps.{writes}
 use Rattle.entries.specs.Lent.{row-of, vacant-rows}
 use Rattle.entries.specs.declared.Entry.{Entry}

@@ -8,12 +8,12 @@ ghost use Rattle.rules.specs.Answers.{check-open, lent};
 ghost use Rattle.checker.specs.Calls.{Opening, Stepping, opened-with, unopened-with};
 ghost use Rattle.checker.specs.Calls.{empty as empty-carried};
 ghost use Rattle.checker.specs.Running.{RunLent, Running, left-with, stored-with};
-use apply::Written;
 use entries::Entry;
 use lent::Carried;
 use load::Loaded;
 use rules::Answer;
 use rules::Fault;
+use stepped::Written;
 use table::Table;
 
 // The answer, and what is carried after it.

@@ -16,8 +16,8 @@ use Rattle.rules.specs.declared.Fault.the-variants.{Malformed}
 use Rattle.table.specs.Spelled.{Row, spelled, Fit}
 use Rattle.table.specs.declared.Table.{Table}
 use Rattle.apply.specs.Applied as applied
-use Rattle.apply.specs.Applied.{unless-refused}
-use Rattle.apply.specs.declared.Stepped.{Stepped}
+use Rattle.stepped.specs.Told.{unless-refused}
+use Rattle.stepped.specs.declared.Stepped.{Stepped}
 use Rattle.steps.specs.Steps.{Steps, writes}
 use Rattle.lines.specs.Lines.{written, following, reply}
 use Rattle.lines.specs.Machine.{line-of, is-frame, frame}

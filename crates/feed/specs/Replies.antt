@@ -8,8 +8,8 @@ use Rattle.words.specs.Words.{assigned}
 use Rattle.table.specs.Spelled.{Row, Fit}
 use Rattle.table.specs.declared.Table.{Table}
 use Rattle.lines.specs.declared.Reader.{Reader}
-use Rattle.apply.specs.declared.Written.{Written}
-use Rattle.apply.specs.declared.Written.the-variants.{Nothing, Tables, Model}
+use Rattle.stepped.specs.declared.Written.{Written}
+use Rattle.stepped.specs.declared.Written.the-variants.{Nothing, Tables, Model}
 
 -- the true variables of the 32 words, where they were written
 abbrev pub listed : Written → List ℕ → List ℕ

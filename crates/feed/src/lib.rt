@@ -7,10 +7,10 @@ ghost use Rattle.lines.specs.Machine.{line-of, run-of};
 ghost use Rattle.lines.specs.Lent as lent;
 ghost use Rattle.table.specs.Spelled.{Fit, spelled};
 ghost use Rattle.feed.specs.Replies.{listed, Feedable};
-use apply::Written;
 use lines::Reader;
 use rules::Answer;
 use rules::Fault;
+use stepped::Written;
 use table::Table;
 
 // The line of an answer; where the model was written, its true variables follow.

@@ -15,10 +15,11 @@ use Rattle.rules.specs.declared.Check.the-variants.{Passed, Failed}
 use Rattle.rules.specs.declared.Answer.{Answer}
 use Rattle.table.specs.Spelled.{Row, spelled, Fit}
 use Rattle.table.specs.declared.Table.{Table}
-use Rattle.apply.specs.Applied.{answer-of, refused-with, unless-refused, answered-with, Same, Applied, Answered}
-use Rattle.apply.specs.declared.Stepped.{Stepped}
-use Rattle.apply.specs.declared.Written.{Written}
-use Rattle.apply.specs.declared.Written.the-variants.{Tables}
+use Rattle.stepped.specs.Told.{refused-with, unless-refused, answered-with}
+use Rattle.apply.specs.Applied.{answer-of, Same, Applied, Answered}
+use Rattle.stepped.specs.declared.Stepped.{Stepped}
+use Rattle.stepped.specs.declared.Written.{Written}
+use Rattle.stepped.specs.declared.Written.the-variants.{Tables}
 use Rattle.steps.specs.Steps.{Steps, writes}
 
 -- ---- the frame's lists, as slices of its words

@@ -7,10 +7,11 @@ use Rattle.rules.specs.Frames.{ADD, LEARN, FORGET, PROMOTE, DROP, WEAKEN, RESTO
 use Rattle.rules.specs.Answers.{outcome}
 use Rattle.table.specs.Spelled.{Row, spelled, Fit}
 use Rattle.table.specs.declared.Table.{Table}
-use Rattle.apply.specs.Applied.{unless-refused, Same, Wrote}
-use Rattle.apply.specs.declared.Stepped.{Stepped}
-use Rattle.apply.specs.declared.Written.{Written}
-use Rattle.apply.specs.declared.Written.the-variants.{Nothing, Tables, Model}
+use Rattle.stepped.specs.Told.{unless-refused}
+use Rattle.apply.specs.Applied.{Same, Wrote}
+use Rattle.stepped.specs.declared.Stepped.{Stepped}
+use Rattle.stepped.specs.declared.Written.{Written}
+use Rattle.stepped.specs.declared.Written.the-variants.{Nothing, Tables, Model}
 
 -- "SAT and UNSAT never write the tables; only an accepted SAT writes the model buffer": what an accepted frame writes
 abbrev pub writes : Parsed → Written

@@ -1,10 +1,10 @@
 // The dispatcher: one frame of any words, by the head that it has.
 ghost use Rattle.table.specs.Spelled.{Fit};
 ghost use Rattle.steps.specs.Steps.{Steps};
-use apply::Stepped;
-use apply::Written;
 use frame::Head;
 use rules::Fault;
+use stepped::Stepped;
+use stepped::Written;
 use table::Table;
 
 pub fn step(
@@ -20,7 +20,7 @@ pub fn step(
 {
     let head = frame::parse(frame);
     match head {
-        Head::Malformed => apply::refused(Fault::Malformed, t),
+        Head::Malformed => stepped::refused(Fault::Malformed, t),
         Head::Add(id) => apply::add(rows, pool, stack, t, id, &frame[2..]),
         Head::Learn(id, n) => {
             let end = 3 + n;
@@ -37,12 +37,12 @@ pub fn step(
         Head::Sat(n) => {
             let end = 2 + n;
             let answer = apply::sat(rows, pool, stack, t, &frame[2..end], &frame[end..], model);
-            apply::answered(answer, Written::Model, t)
+            stepped::answered(answer, Written::Model, t)
         }
         Head::Unsat(n) => {
             let end = 2 + n;
             let answer = apply::unsat(rows, pool, stack, t, &frame[2..end], &frame[end..]);
-            apply::answered(answer, Written::Nothing, t)
+            stepped::answered(answer, Written::Nothing, t)
         }
     }
 }

@@ -1,6 +1,6 @@
 use borrow.Author.Needs.{needs}
-use Rattle.apply.proofs.answered.Statement.{statement}
-use Rattle.apply.proofs.answered.Tie as tie
+use Rattle.stepped.proofs.answered.Statement.{statement}
+use Rattle.stepped.proofs.answered.Tie as tie
 
 enum-told : tie.Need-enum-told
 enum-told c = search needs

@@ -1,0 +1,2 @@
+-- What a frame came to.
+pub mod Told

@@ -1,0 +1,22 @@
+-- What a frame came to, by its answer.
+use Rattle.rules.specs.declared.Fault.{Fault}
+use Rattle.rules.specs.declared.Answer.{Answer}
+use Rattle.rules.specs.declared.Answer.the-variants.{Accepted, Refused}
+use Rattle.table.specs.declared.Table.{Table}
+use Rattle.stepped.specs.declared.Stepped.{Stepped}
+use Rattle.stepped.specs.declared.Written.{Written}
+use Rattle.stepped.specs.declared.Written.the-variants.{Nothing, Tables}
+
+abbrev pub refused-with : Fault → Table → Stepped
+refused-with e t = record { answer = Refused e; table = t; written = Nothing }
+
+abbrev pub accepted-with : Table → Stepped
+accepted-with t = record { answer = Accepted 0; table = t; written = Tables }
+
+-- what was written, by what an accepted one writes
+abbrev pub unless-refused : Written → Answer → Written
+unless-refused w (Accepted n) = w
+unless-refused w (Refused e) = Nothing
+
+abbrev pub answered-with : Answer → Written → Table → Stepped
+answered-with a w t = record { answer = a; table = t; written = unless-refused w a }
