@@ -38,20 +38,7 @@ pub fn write_rows(table: &mut [[u32; 5]], rows: &[[u32; 5]])
     }
 }
 
-// Of the first n rows, those behind `at` move one place down.
-pub fn close_rows(rows: &mut [[u32; 5]], n: usize, at: usize)
-    requires { ⌜ (n ≤ length (now rows)) × (at < n) ⌝ }
-    ensures { λ _. ⌜ now (rows .exit) ≡ closed (now (rows .entry)) at (n - 1) ⌝ }
-{
-    let mut j = at;
-    let last = n - 1;
-    while j < last {
-        rows[j] = rows[j + 1];
-        j += 1;
-    }
-}
-
-// The same of the stack's ids.
+// Of the first n ids of the stack, those behind `at` move one place down.
 pub fn close_stack(stack: &mut [u32], n: usize, at: usize)
     requires { ⌜ (n ≤ length (now stack)) × (at < n) ⌝ }
     ensures { λ _. ⌜ now (stack .exit) ≡ closed (now (stack .entry)) at (n - 1) ⌝ }
