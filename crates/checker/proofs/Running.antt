@@ -15,6 +15,7 @@ use Rattle.rules.specs.declared.Answer.the-variants.{Refused}
 use Rattle.rules.specs.declared.Check.{Check}
 use Rattle.rules.specs.declared.Check.the-variants.{Passed, Failed}
 use Rattle.rules.specs.declared.Fault.the-variants.{NoState}
+use Rattle.rules.proofs.Lasting.{outcome-lasts}
 use Rattle.slices.specs.Writes.{over}
 use Rattle.slices.proofs.Slices.{take-over, length-over}
 use Rattle.table.specs.Spelled as working
@@ -30,7 +31,6 @@ use Rattle.stepped.specs.declared.Written.{Written}
 use Rattle.stepped.specs.declared.Written.the-variants.{Nothing, Tables, Model}
 use Rattle.writes.specs.Room.{Squeezed}
 use Rattle.steps.specs.Steps.{Steps, writes}
-use Rattle.steps.proofs.Kept.{entries-kept}
 use Rattle.checker.specs.Calls.{judged}
 use Rattle.checker.specs.Running.{Running, left-with, stored-with}
 
@@ -121,7 +121,7 @@ module _ (c : Carried) (rows : List Row) (pool : List ℤ) {t : Table} {rows₁ 
   -- as many clauses may be held as entries are lent
   entries-are : s .table .entries ≡ length rows
   unfolding state-of
-  entries-are = ap (λ (x : State). x .entries) (st .state) ∙ entries-kept (working.spelled t rows₁ pool (c .stack)) frame ∙ ap (λ (x : State). x .entries) same
+  entries-are = ap (λ (x : State). x .entries) (st .state) ∙ outcome-lasts (working.spelled t rows₁ pool (c .stack)) frame .1 ∙ ap (λ (x : State). x .entries) same
 
   written-is : (w : Written) → s .written ≡ w → unless-refused (writes (parse frame)) (s .answer) ≡ w
   written-is w e = sym (st .told) ∙ e

@@ -8,15 +8,13 @@ use native.Mathlib.Omega.{arith}
 use lib.ListN.{length, length-append}
 use lib.IntN.{ℤ}
 use Rattle.rules.specs.Terms.{State, Assignment}
-use Rattle.rules.specs.Frames.{Frame, ADD, LEARN, FORGET, PROMOTE, DROP, WEAKEN, RESTORE, SAT, UNSAT, Parsed, malformed, framed, parse, next}
-use Rattle.rules.specs.Answers.{numbers, Handed, untouched, mended, Outcome, outcome, outcome-parsed, settled, check}
+use Rattle.rules.specs.Answers.{numbers, Handed, untouched, mended, Outcome}
 use Rattle.rules.specs.Outcomes.{trues}
 use Rattle.rules.specs.declared.Answer.{Answer}
 use Rattle.rules.specs.declared.Answer.the-variants.{Refused}
 use Rattle.rules.specs.declared.Fault.the-variants.{Malformed}
-use Rattle.rules.specs.declared.Check.{Check}
-use Rattle.rules.specs.declared.Check.the-variants.{Passed, Failed}
 use Rattle.rules.proofs.Lists.{by-cases}
+use Rattle.rules.proofs.Lasting.{outcome-lasts}
 use Rattle.lines.specs.Hex.{hex}
 use Rattle.lines.specs.Lines.{judged, spelled, numbered, following, reply, refusal}
 use Rattle.lines.specs.Machine.{is-begun, ended}
@@ -61,25 +59,5 @@ ended-room d spoilt w = omega (arith, w .place, few (is-begun d spoilt))
 
 -- no line changes V
 pub vars-kept : (s : State) (f : Option (List ℤ)) → judged s f .state .vars ≡ s .vars
-unfolding outcome
 vars-kept s none = refl
-vars-kept s (some ws) = parsed (parse ws)
-  where
-    after : (f : Frame) → next s f .vars ≡ s .vars
-    after (ADD i c) = refl
-    after (LEARN i c hints) = refl
-    after (FORGET i) = refl
-    after (PROMOTE i) = refl
-    after (DROP i hints) = refl
-    after (WEAKEN i w groups) = refl
-    after (RESTORE i) = refl
-    after (SAT assumed vs) = refl
-    after (UNSAT assumed hints) = refl
-
-    passed : (f : Frame) (c : Check) → settled s f c .state .vars ≡ s .vars
-    passed f Passed = after f
-    passed f (Failed e) = refl
-
-    parsed : (p : Parsed) → outcome-parsed s p .state .vars ≡ s .vars
-    parsed malformed = refl
-    parsed (framed f) = passed f (check s f)
+vars-kept s (some ws) = outcome-lasts s ws .0

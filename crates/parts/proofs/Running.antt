@@ -11,6 +11,7 @@ use lib.ListN.{length, take, length-append}
 use lib.Seq.{length-take-le, take-append-le}
 use Rattle.rules.specs.Terms.{State}
 use Rattle.rules.proofs.Lists.{by-cases}
+use Rattle.rules.proofs.Lasting.{outcome-lasts}
 use Rattle.slices.specs.Writes.{over}
 use Rattle.slices.proofs.Slices.{take-over, length-over}
 use Rattle.table.specs.Spelled as working
@@ -20,7 +21,6 @@ use Rattle.lent.specs.State.{is-state, state-of, spelled}
 use Rattle.lent.specs.declared.Carried.{Carried}
 use Rattle.lent.proofs.Stored.{stored-is-state, stored-spells}
 use Rattle.writes.specs.Room.{Squeezed}
-use Rattle.steps.proofs.Kept.{entries-kept}
 use Rattle.lines.specs.Lines.{judged}
 use Rattle.lines.specs.Machine.{Line, frame, Run, run-of, move, run}
 use Rattle.lines.specs.Lent as lines
@@ -61,7 +61,7 @@ module _ {t : Table} {rows : List Row} {pool : List ℤ} {stack : List ℕ} (f :
 
 judged-entries : (s : State) (f : Option (List ℤ)) → judged s f .state .entries ≡ s .entries
 judged-entries s none = refl
-judged-entries s (some ws) = entries-kept s ws
+judged-entries s (some ws) = outcome-lasts s ws .1
 
 move-entries : (r : Run) (b : ℕ) → move r b .state .entries ≡ r .state .entries
 unfolding move

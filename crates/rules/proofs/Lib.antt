@@ -13,3 +13,4 @@ pub mod Meaning
 pub mod Theorems
 pub mod Outcomes
 pub mod Codes
+pub mod Lasting

@@ -1,3 +1,2 @@
 -- From an application to what a frame's words come to.
 pub mod Stepping
-pub mod Kept
