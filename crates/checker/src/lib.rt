@@ -32,10 +32,8 @@ struct Ran {
 fn left(answer: Answer, c: Carried) -> Ran
     ensures { λ r. ⌜ r ≡ left-with answer c ⌝ }
 {
-    Ran {
-        called: Called { answer, carried: c },
-        count: 0,
-    }
+    let called = Called { answer, carried: c };
+    Ran { called, count: 0 }
 }
 
 // The rows held go back, and what is carried is new.

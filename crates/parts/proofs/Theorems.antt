@@ -44,7 +44,7 @@ module _ {rows : List Row} {pool : List ℤ} {c : Carried} {r : Reader} {frame :
         answers = a .answered ∙ sym (b .answered);
         states = rw (x .0, x .1, x .2, x .3, y .0, y .1, y .2, y .3) refl;
         lines = rw (x .0, x .3, y .0, y .3) refl;
-        replies = rw (x .0, x .4, y .0, y .4) refl;
+        replies = rw (x .0, y .0) refl;
       }
 
   pub same-outcome : q .taken ≡ p .taken → Agree
