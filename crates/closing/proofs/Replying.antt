@@ -23,8 +23,8 @@ use Rattle.lines.specs.Lines.{written, following, reply}
 use Rattle.lines.specs.Machine.{line-of, is-frame, frame}
 use Rattle.lines.specs.Lent.{Wrote, Closed}
 use Rattle.lines.specs.declared.Reader.{Reader}
-use Rattle.feed.specs.Replies.{listed}
-use Rattle.feed.proofs.Past.{trues-within}
+use Rattle.closing.specs.Replies.{listed}
+use Rattle.closing.proofs.Past.{trues-within}
 
 -- what follows the answer is what was written of the model: by the frame, and by what its check says
 module _ {t : Table} {rows : List Row} {pool : List ℤ} {stack : List ℕ} (fit : Fit t rows pool stack) (model model′ : List ℕ) where

@@ -1,10 +1,10 @@
 use mathlib.Core.Path.{sym, _∙_}
 use native.Mathlib.Omega.{arith}
 use lib.Seq.{length-take-le}
-use Rattle.feed.proofs.Replying.{close-spoilt, close-framed}
+use Rattle.closing.proofs.Replying.{close-spoilt, close-framed}
 use borrow.Author.Needs.{needs}
-use Rattle.feed.proofs.close.Statement.{statement}
-use Rattle.feed.proofs.close.Tie as tie
+use Rattle.closing.proofs.close.Statement.{statement}
+use Rattle.closing.proofs.close.Tie as tie
 
 is-framed-requires : tie.Need-is-framed-requires
 is-framed-requires c κs = search needs

@@ -1,6 +1,6 @@
 use borrow.Author.Needs.{needs}
-use Rattle.feed.proofs.put_reply.Statement.{statement}
-use Rattle.feed.proofs.put_reply.Tie as tie
+use Rattle.closing.proofs.put_reply.Statement.{statement}
+use Rattle.closing.proofs.put_reply.Tie as tie
 
 enum-told : tie.Need-enum-told
 enum-told c = search needs
