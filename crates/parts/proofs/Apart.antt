@@ -1,13 +1,13 @@
 -- The part runs on a copy of the rows, of which `count` go back over the table's own.
-use mathlib.Core.Path.{_≡_, refl, sym, ap, _∙_}
-use mathlib.Core.Bool.{true, false, _&&_, true≢false}
-use mathlib.Core.List.{List, _++_}
+use mathlib.Core.Path.{_≡_, refl, ap, _∙_}
+use mathlib.Core.Bool.{true, false, _&&_}
+use mathlib.Core.List.{List}
 use mathlib.Core.Option.{Option, none, some}
 use Prim.Native.Nat.{ℕ, _≤_}
 use native.Mathlib.Omega.{arith}
 use lib.Dec.{leb}
 use lib.IntN.{ℤ}
-use lib.ListN.{length, take, drop, replicate, length-replicate}
+use lib.ListN.{length, take, replicate, length-replicate}
 use lib.Seq.{length-take-le, take-append-le, take-all}
 use borrow.Author.Tests.{leb-true, le-leb}
 use Rattle.rules.specs.Terms.{State}
@@ -19,7 +19,7 @@ use Rattle.table.specs.Spelled.{Row}
 use Rattle.lent.specs.declared.Carried.{Carried}
 use Rattle.lent.proofs.Sizes.{lent-most}
 use Rattle.lines.specs.declared.Reader.{Reader}
-use Rattle.parts.specs.Giving.{is-line, in-sizes, met, refused-with, vacant-rows, Giving, Sized, RanOn}
+use Rattle.parts.specs.Giving.{is-line, in-sizes, refused-with, vacant-rows, Giving, Sized, RanOn}
 use Rattle.parts.specs.declared.Ran.{Ran}
 
 -- ---- sizes

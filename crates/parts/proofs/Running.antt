@@ -22,7 +22,7 @@ use Rattle.lent.specs.declared.Carried.{Carried}
 use Rattle.lent.proofs.Stored.{stored-is-state, stored-spells}
 use Rattle.writes.specs.Room.{Squeezed}
 use Rattle.lines.specs.Lines.{judged}
-use Rattle.lines.specs.Machine.{Line, frame, Run, run-of, move, run}
+use Rattle.lines.specs.Machine.{frame, Run, run-of, move, run}
 use Rattle.lines.specs.Lent as lines
 use Rattle.lines.specs.declared.Reader.{Reader}
 use Rattle.feed.specs.declared.Fed.{Fed}

@@ -1,7 +1,7 @@
 -- What the code leaves of rows, pool and stack fits, and spells the paper's next state.
 use mathlib.Core.Path.{_≡_, refl, sym, _∙_, ap, subst}
 use mathlib.Core.Bool.{true, false}
-use mathlib.Core.List.{List, [], _∷_, _++_, map, map-append, append-nil, reverse, reverse-append, reverse-cons}
+use mathlib.Core.List.{List, [], _∷_, _++_, map, append-nil, reverse, reverse-append, reverse-cons}
 use Prim.Native.Nat.{ℕ, suc, _+_, _-_, _<_, _≤_}
 use native.Mathlib.Omega.{arith}
 use lib.Dec.{eqb}

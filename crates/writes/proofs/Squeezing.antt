@@ -1,8 +1,8 @@
 -- The rows whose clause is gone are taken out: those that are left spell the same, in the same order.
 use mathlib.Core.Path.{_≡_, refl, sym, ap, _∙_}
-use mathlib.Core.Bool.{Bool, true, false, not}
+use mathlib.Core.Bool.{Bool, true, false}
 use mathlib.Core.List.{List, [], _∷_, _++_, map}
-use Prim.Native.Nat.{ℕ, zero, suc, _+_, _<_, _≤_}
+use Prim.Native.Nat.{ℕ, suc, _+_, _<_}
 use native.Mathlib.Omega.{arith}
 use native.Mathlib.Numerals.{add-one}
 use lib.Dec.{eqb}
@@ -16,7 +16,7 @@ use Rattle.rules.specs.Frames.{Frame, next}
 use Rattle.rules.proofs.Lists.{by-cases, from-index}
 use Rattle.slices.proofs.Slices.{take-next}
 use Rattle.table.specs.Facts.{All, none, both, Pairs, alone, ahead, total}
-use Rattle.table.specs.Spelled.{Row, row-at, place-of, size, held, stands, clauses, held-rows, from-top, spelled, Inside, gone-one, Fit}
+use Rattle.table.specs.Spelled.{Row, row-at, place-of, size, held, stands, clauses, held-rows, Inside, gone-one, Fit}
 use Rattle.table.specs.declared.Table.{Table}
 use Rattle.table.proofs.Facts.{all-more, all-both}
 use Rattle.table.proofs.Rows.{clause-length, witness-length, lawful-gone}

@@ -55,9 +55,6 @@ pub record Closing (rows₀ : List Row) (i k : ℕ) (rows : List Row) : Type 0 w
   pub few : k ≤ i
   pub long : length rows ≡ length rows₀
 
-abbrev pub Closes : List Row → ℕ → ℕ → List Row → Type 0
-Closes rows n k rows′ = Closing rows n k rows′
-
 -- no row in use is gone, and nothing else is changed
 pub record Squeezed (t : Table) (rows : List Row) (pool : List ℤ) (stack : List ℕ) (t′ : Table) (rows′ : List Row) : Type 0 where
   pub fit : Fit t′ rows′ pool stack

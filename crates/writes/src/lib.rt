@@ -10,7 +10,7 @@ ghost use Rattle.rules.specs.Frames.{ADD, DROP, FORGET, LEARN, PROMOTE, RESTORE
 ghost use Rattle.slices.specs.Writes.{Among, written};
 ghost use Rattle.table.specs.Spelled.{Fit, id-of, place-of, row-at, size};
 ghost use Rattle.writes.specs.Moved.{Fits, Moved, New, RowHeld, Weakenable};
-ghost use Rattle.writes.specs.Room.{Closes, FreeRow, Gathered, Roomy, Squeezed, blank-row, grown, lessened};
+ghost use Rattle.writes.specs.Room.{Closing, FreeRow, Gathered, Roomy, Squeezed, blank-row, grown, lessened};
 use table::Table;
 
 // ---- what writers are made of
@@ -73,7 +73,7 @@ fn make_room(rows: &mut [[u32; 5]], pool: &mut [i32], t: Table, n: usize) -> Tab
 // The rows that hold a clause, one after the other at the front. How many they are.
 fn close_up(rows: &mut [[u32; 5]], count: usize) -> usize
     requires { ⌜ count ≤ length (now rows) ⌝ }
-    ensures { λ r. ⌜ Closes (now (rows .entry)) count r (now (rows .exit)) ⌝ }
+    ensures { λ r. ⌜ Closing (now (rows .entry)) count r (now (rows .exit)) ⌝ }
 {
     let mut i = 0;
     let mut k = 0;

@@ -44,7 +44,7 @@ use denote.Triple.Clauses.{ensured, lasts}
 use denote.Triple.Entry.{onEntry}
 use denote.Triple.Spec.{Meets, tripleOf}
 use denote.Triple.Table.{entered, cited}
-use denote.Triple.Walked.{says, Stays, stay-none, stay-none-slice, gave-slice, walkOf, AllGo, goes-none, goes-none-slice, goes-gave-slice, Walks, ends-at, walked, walk-meets}
+use denote.Triple.Walked.{says, Stays, stay-none, stay-none-slice, gave-slice, walkOf, goes-none, goes-none-slice, goes-gave-slice, ends-at, walked, walk-meets}
 use denote.Exit.{yes}
 use Rattle.slices.specs.Writes.{over}
 use Rattle.table.specs.Spelled.{Row}
@@ -53,7 +53,6 @@ use Rattle.entries.specs.declared.Entry.{Entry}
 use Rattle.entries.proofs.Calls.{answers}
 use Rattle.entries.proofs.Copying.{taken-apart, put-together}
 use Rattle.entries.proofs.Values.{E, R, Rows, rows-ty, rows-val, rows-vals, rows-tells, rows-makes, rows-typed}
-use Rattle.checker.specs.Calls.{Stepping}
 use Rattle.checker.specs.Running.{RunLent, taken}
 use Rattle.checker.proofs.Stepped.{steps-lent}
 use Rattle.lent.specs.declared.Carried.{Carried}

@@ -6,7 +6,7 @@ use mathlib.Core.Path.{ap, _∙_}
 use lib.ListN.{length, length-set}
 use Rattle.rules.specs.Terms.{State}
 use Rattle.slices.proofs.Slices.{length-tail, tail-written}
-use Rattle.writes.specs.Room.{FreeRow, Roomy}
+use Rattle.writes.specs.Room.{FreeRow}
 use Rattle.writes.proofs.Packing.{roomy-lengths, add-after, learn-after}
 use Rattle.writes.proofs.Squeezing.{freed-new, freed-clause, freed-moves}
 use borrow.Author.Needs.{needs}

@@ -1,4 +1,4 @@
--- `table::compact` meets its contract: what was gathered is written back to the pool's front.
+-- `writes::compact` meets its contract: what was gathered is written back to the pool's front.
 use mathlib.Core.Path.{_≡_}
 use Prim.Native.Nat.{_-_}
 use native.Mathlib.Omega.{arith}

@@ -1,4 +1,4 @@
--- `table::gather` meets its contract. The loop's invariant: the first i rows are packed, and their parts stand in the buffer.
+-- `writes::gather` meets its contract. The loop's invariant: the first i rows are packed, and their parts stand in the buffer.
 use mathlib.Core.Path.{_≡_, refl, sym, _∙_}
 use mathlib.Core.List.{List}
 use Prim.Native.Nat.{_+_, _-_, _≤_}

@@ -1,4 +1,4 @@
--- `table::make_room` meets its contract: by compaction, or because the tail is long enough.
+-- `writes::make_room` meets its contract: by compaction, or because the tail is long enough.
 use mathlib.Core.Path.{refl}
 use native.Mathlib.Omega.{arith}
 use borrow.Author.Needs.{needs}

@@ -1,4 +1,4 @@
--- `table::promote` meets its contract: the law of PROMOTE.
+-- `writes::promote` meets its contract: the law of PROMOTE.
 use Rattle.writes.proofs.Moves.{promote-moves}
 use borrow.Author.Needs.{needs}
 use Rattle.writes.proofs.promote.Statement.{statement}

@@ -1,4 +1,4 @@
--- `table::restore` meets its contract: the law of RESTORE, at the place of the id that was found.
+-- `writes::restore` meets its contract: the law of RESTORE, at the place of the id that was found.
 use Rattle.writes.proofs.Moves.{restore-moves}
 use borrow.Author.Needs.{needs}
 use Rattle.writes.proofs.restore.Statement.{statement}

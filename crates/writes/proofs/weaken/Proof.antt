@@ -1,4 +1,4 @@
--- `table::weaken` meets its contract: the row is blanked, room is made, and the record's law is cited.
+-- `writes::weaken` meets its contract: the row is blanked, room is made, and the record's law is cited.
 use mathlib.Core.Path.{_≡_, sym, _∙_, ap}
 use mathlib.Core.List.{List}
 use Prim.Native.Nat.{_+_, _-_, _≤_}
