@@ -29,7 +29,7 @@ use Rattle.apply.specs.Applied.{Wrote}
 use Rattle.stepped.specs.declared.Stepped.{Stepped}
 use Rattle.stepped.specs.declared.Written.{Written}
 use Rattle.stepped.specs.declared.Written.the-variants.{Nothing, Tables, Model}
-use Rattle.writes.specs.Room.{Squeezed}
+use Rattle.room.specs.Room.{Squeezed}
 use Rattle.steps.specs.Steps.{Steps, writes}
 use Rattle.checker.specs.Calls.{judged}
 use Rattle.checker.specs.Running.{Running, left-with, stored-with}

@@ -85,7 +85,7 @@ fn run(rows: &mut [[u32; 5]], pool: &mut [i32], c: Carried, frame: &[i32], model
     match written {
         Written::Nothing => left(answer, c),
         Written::Tables => {
-            let whole = writes::squeeze(rows, table);
+            let whole = room::squeeze(rows, table);
             stored(answer, whole, stack)
         }
         Written::Model => {

@@ -20,7 +20,7 @@ use Rattle.table.specs.declared.Table.{Table}
 use Rattle.lent.specs.State.{is-state, state-of, spelled}
 use Rattle.lent.specs.declared.Carried.{Carried}
 use Rattle.lent.proofs.Stored.{stored-is-state, stored-spells}
-use Rattle.writes.specs.Room.{Squeezed}
+use Rattle.room.specs.Room.{Squeezed}
 use Rattle.lines.specs.Lines.{judged}
 use Rattle.lines.specs.Machine.{frame, Run, run-of, move, run}
 use Rattle.lines.specs.Lent as lines

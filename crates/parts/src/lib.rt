@@ -96,7 +96,7 @@ fn run(
     let mut stack = c.stack;
     let fed = feed::feed(part, 0, r, frame, rows, pool, &mut stack, t, out, 0);
     let table = fed.table;
-    let whole = writes::squeeze(rows, table);
+    let whole = room::squeeze(rows, table);
     stored(fed, whole, stack)
 }
 

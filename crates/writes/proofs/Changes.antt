@@ -3,24 +3,13 @@ use mathlib.Core.Path.{_≡_, refl, _∙_}
 use mathlib.Core.List.{List, [], _∷_, _++_, map}
 use Prim.Native.Nat.{ℕ, _<_}
 use lib.IntN.{ℤ}
-use Rattle.rules.specs.Terms.{State, fetch}
+use Rattle.rules.specs.Terms.{State}
 use Rattle.rules.specs.Frames.{ADD, LEARN, FORGET, PROMOTE, DROP, WEAKEN, RESTORE, next}
 use Rattle.table.specs.Facts.{All}
 use Rattle.table.specs.Spelled.{Listed, Entry}
+use Rattle.room.proofs.Refits.{state-of}
 use Rattle.table.proofs.Entries.{entry-of, spell, spell-unseen, spell-comes, spell-goes, fetch-here, has-here}
 use Rattle.table.proofs.Stacked.{listed-fetch, records-push, records-leave}
-
--- the state that entries by rising id and the ids of the stack, from the top, spell
-abbrev pub state-of : ℕ → ℕ → ℕ → ℕ → List Entry → List ℕ → State
-state-of vars highest entries words es ids = record {
-  vars = vars;
-  highest = highest;
-  entries = entries;
-  words = words;
-  irredundant = spell 0 es;
-  learned = spell 1 es;
-  stack = map (fetch (spell 2 es)) ids;
-}
 
 module _ (v hi n m : ℕ) (es fs : List Entry) (ids : List ℕ) (i : ℕ) (c : List ℤ) (b : All (λ a. a .what .id < i) es) (a : All (λ a. i < a .what .id) fs) where
   -- the clause as it stands in each place

@@ -1,7 +1,6 @@
 -- What each accepted frame does to entries and stack is the paper's (Changes), and what the code leaves of rows, pool and stack is that
--- (Moves, Packing, Weakening, Squeezing).
+-- (Moves, Weakening), also after room was made (Roomed).
 pub mod Changes
 pub mod Moves
-pub mod Packing
 pub mod Weakening
-pub mod Squeezing
+pub mod Roomed

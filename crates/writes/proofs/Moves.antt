@@ -20,49 +20,16 @@ use Rattle.table.proofs.Facts.{all-here, all-more, all-map, all-unmap, total-jo
 use Rattle.slices.proofs.Slices.{take-next, take-swap, take-closed, length-closed, written-before, written-part, length-written}
 use Rattle.table.proofs.Entries.{entry-of, spell, clauses-spell, spell-unseen}
 use Rattle.table.proofs.Stacked.{listed-leave}
-use Rattle.writes.proofs.Changes.{state-of, added, learnt, forgotten, dropped, promoted, restored}
+use Rattle.room.proofs.Refits.{state-of, spelled-is, refit}
+use Rattle.writes.proofs.Changes.{added, learnt, forgotten, dropped, promoted, restored}
 use Rattle.table.proofs.Rows.{lawful-clause, clause-length, clause-short, entries-split, earlier, later, others-clear, own, listed-here, plain-row, listed-cut, core-cut, clear-tail, clear-less, Comes, entries-put, core-put}
 use Rattle.table.proofs.Readers.{row-inside, gone-most}
-
-pub spelled-is : (t : Table) (rows : List Row) (pool : List ℤ) (stack : List ℕ) → spelled t rows pool stack ≡ state-of (t .vars) (t .highest) (t .entries) (length pool) (map (entry pool) (held-rows t rows)) (from-top t stack)
-spelled-is t rows pool stack =
-    let a = clauses-spell 0 pool (held-rows t rows) in
-    let b = clauses-spell 1 pool (held-rows t rows) in
-    let c = clauses-spell 2 pool (held-rows t rows) in
-    rw (a, b, c)
 
 -- the table with a clause of n words more
 abbrev pub appended : Table → ℕ → ℕ → Table
 appended t id n = record { vars = t .vars; highest = id; entries = t .entries; count = t .count + 1; gone = t .gone; words = t .words + n; depth = t .depth; top = t .top + n }
 
 module _ {t : Table} {rows : List Row} {pool : List ℤ} {stack : List ℕ} (f : Fit t rows pool stack) where
-  -- the lent slices are as long as they were, and V and the number of entries are what they were
-  pub refit : {t′ : Table} {rows′ : List Row} {pool′ : List ℤ} {stack′ : List ℕ} → t′ .vars ≡ t .vars → t′ .entries ≡ t .entries → t′ .highest ≤ 2147483647 → length rows′ ≡ length rows → length pool′ ≡ length pool → length stack′ ≡ length stack →
-      t′ .count ≤ length rows → t′ .count ≤ t .entries + t′ .gone → t′ .top ≤ length pool → t′ .depth ≤ length stack → t′ .gone ≡ total gone-one (held-rows t′ rows′) →
-      Core (t .vars) (t′ .highest) (t′ .top) (t′ .words) (held-rows t′ rows′) pool′ (from-top t′ stack′) → Fit t′ rows′ pool′ stack′
-  refit e d i a b c x m y z n k =
-      let v = f .vars-fit in
-      let l = f .entries-lent in
-      let p = f .rows-lent in
-      let q = f .pool-lent in
-      let r = f .stack-lent in
-      let o = f .entries-fit in
-      record {
-        vars-fit = (omega arith, omega arith);
-        highest-fit = i;
-        entries-lent = omega arith;
-        rows-lent = omega arith;
-        pool-lent = omega arith;
-        stack-lent = omega arith;
-        entries-fit = omega arith;
-        rows-fit = omega arith;
-        held-fit = omega arith;
-        pool-fit = omega arith;
-        stack-fit = omega arith;
-        gone-fit = n;
-        core = rw e k;
-      }
-
   pub moved-by : {t′ : Table} {rows′ : List Row} {pool′ : List ℤ} {stack′ : List ℕ} {g : Frame} → Fit t′ rows′ pool′ stack′ → t′ .entries ≡ t .entries → length pool′ ≡ length pool →
       state-of (t′ .vars) (t′ .highest) (t .entries) (length pool) (map (entry pool′) (held-rows t′ rows′)) (from-top t′ stack′)
       ≡ next (state-of (t .vars) (t .highest) (t .entries) (length pool) (map (entry pool) (held-rows t rows)) (from-top t stack)) g →
@@ -123,7 +90,7 @@ module _ {t : Table} {rows : List Row} {pool : List ℤ} {stack : List ℕ} (f :
       append-fit : Fit (appended t id (length lits)) rows′ pool′ stack
       append-fit =
           let e = take-next rows (t .count) (new-row p) room in
-          refit refl refl (new .1) (length-set rows (t .count) (new-row p)) (length-written pool (t .top) lits (f .pool-fit) fits) refl (omega arith) (omega arith) fits (f .stack-fit)
+          refit f refl refl (new .1) (length-set rows (t .count) (new-row p)) (length-written pool (t .top) lits (f .pool-fit) fits) refl (omega arith) (omega arith) fits (f .stack-fit)
           (omega (arith, f .gone-fit, ap (total gone-one) e, total-join gone-one hr (new-row p ∷ []), held-one))
           (rw e (core-put hr [] all-rows (comes p l) (t .words + length lits) _ (omega arith) (unstacked p s)))
 
@@ -237,7 +204,7 @@ module _ {t : Table} {rows : List Row} {pool : List ℤ} {stack : List ℕ} (f :
       remove-fit : Fit removed (set rows at gone-row) pool stack
       unfolding Lawful
       remove-fit =
-          refit refl refl (f .highest-fit) (length-set rows at gone-row) refl refl (f .rows-fit) (omega (arith, f .held-fit)) (f .pool-fit) (f .stack-fit) (omega (arith, gone-swap gone-row))
+          refit f refl refl (f .highest-fit) (length-set rows at gone-row) refl refl (f .rows-fit) (omega (arith, f .held-fit)) (f .pool-fit) (f .stack-fit) (omega (arith, gone-swap gone-row))
           (settle-core 3 0 (omega arith) (refl, refl) refl (from-top t stack) (listed-cut us r bs core-at s) _ (omega (arith, size-within)))
 
       remove-moves : {g : Frame} → state-of (t .vars) (t .highest) (t .entries) (length pool) (es ++ fs) (from-top t stack)
@@ -287,7 +254,7 @@ module _ {t : Table} {rows : List Row} {pool : List ℤ} {stack : List ℕ} (f :
         let z = plain-row us r bs core-at 1 (omega arith) e in
         let held-one : gone-one r ≡ 0 = rw e in
         moved-by
-        (refit refl refl (f .highest-fit) n refl refl (f .rows-fit) (f .held-fit) (f .pool-fit) (f .stack-fit) (omega (arith, gone-swap settled-row, held-one)) (settle-core 0 (length-of r) (omega arith) own-settled refl (from-top t stack) l _ (omega (arith, size-within))))
+        (refit f refl refl (f .highest-fit) n refl refl (f .rows-fit) (f .held-fit) (f .pool-fit) (f .stack-fit) (omega (arith, gone-swap settled-row, held-one)) (settle-core 0 (length-of r) (omega arith) own-settled refl (from-top t stack) l _ (omega (arith, size-within))))
         refl
         refl
         (rw (x, y, z) (promoted (t .vars) (t .highest) (t .entries) (length pool) es fs (from-top t stack) (id-of r) (clause-part pool r) (earlier us r bs core-at) (later us r bs core-at)))
@@ -330,7 +297,7 @@ module _ {t : Table} {rows : List Row} {pool : List ℤ} {stack : List ℕ} (f :
           let y = entries-at in
           let held-one : gone-one r ≡ 0 = rw e in
           moved-by
-          (refit refl refl (f .highest-fit) n refl m (f .rows-fit) (f .held-fit) (f .pool-fit) (omega arith) (omega (arith, gone-swap settled-row, held-one)) (rw o (settle-core 0 (length-of r) (omega arith) own-settled refl (xs ++ ys) left _ (omega (arith, size-within)))))
+          (refit f refl refl (f .highest-fit) n refl m (f .rows-fit) (f .held-fit) (f .pool-fit) (omega arith) (omega (arith, gone-swap settled-row, held-one)) (rw o (settle-core 0 (length-of r) (omega arith) own-settled refl (xs ++ ys) left _ (omega (arith, size-within)))))
           refl
           refl
           (rw (o, i, x, y, e)

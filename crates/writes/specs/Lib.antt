@@ -1,3 +1,2 @@
--- What an accepted frame does to the tables: Moved. Room has what is said of the pool's tail.
+-- What an accepted frame does to the tables.
 pub mod Moved
-pub mod Room

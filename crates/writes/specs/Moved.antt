@@ -1,13 +1,13 @@
 -- An accepted frame's move of the tables, and what writers lean on.
 use mathlib.Core.Path.{_≡_}
 use mathlib.Core.Bool.{true}
-use mathlib.Core.List.{List}
-use Prim.Native.Nat.{ℕ, _+_, _<_, _≤_}
+use mathlib.Core.List.{List, [], _∷_}
+use Prim.Native.Nat.{ℕ, _+_, _-_, _<_, _≤_}
 use lib.IntN.{ℤ}
 use lib.ListN.{length}
 use Rattle.rules.specs.Terms.{is-witness}
 use Rattle.rules.specs.Frames.{Frame, next}
-use Rattle.table.specs.Spelled.{Row, row-at, place-of, size, clause-part, spelled, Fit}
+use Rattle.table.specs.Spelled.{Row, row-at, id-of, place-of, start-of, size, clause-part, spelled, Fit}
 use Rattle.table.specs.declared.Table.{Table}
 
 -- an accepted frame: the tables after it fit, and spell what the paper says
@@ -16,10 +16,6 @@ pub record Moved (t : Table) (rows : List Row) (pool : List ℤ) (stack : List �
   pub state : spelled t′ rows′ pool′ stack′ ≡ next (spelled t rows pool stack) f
 
 -- ---- what writers lean on
-
--- with some stack: for writers that do not touch it
-abbrev pub Fits : Table → List Row → List ℤ → Type 0
-Fits t rows pool = (stack : List ℕ) × Fit t rows pool stack
 
 -- `at` is a row held; the numbers that the code leans on
 abbrev pub RowHeld : Table → List Row → ℕ → Type 0
@@ -35,3 +31,14 @@ pub record Weakenable (t : Table) (rows : List Row) (pool : List ℤ) (at : ℕ)
   pub irredundant : place-of (row-at rows at) ≡ 0
   pub witnessed : is-witness (t .vars) (clause-part pool (row-at rows at)) witness ≡ true
   pub room : t .words + length witness ≤ length pool
+
+-- ---- WEAKEN, in two halves: the row gives up its words, a record takes them and the witness's
+
+abbrev pub lessened : Table → ℕ → Table
+lessened t n = record { vars = t .vars; highest = t .highest; entries = t .entries; count = t .count; gone = t .gone; words = t .words - n; depth = t .depth; top = t .top }
+
+abbrev pub grown : Table → ℕ → Table
+grown t n = record { vars = t .vars; highest = t .highest; entries = t .entries; count = t .count; gone = t .gone; words = t .words + n; depth = t .depth + 1; top = t .top + n }
+
+abbrev pub blank-row : Row → Row
+blank-row r = id-of r ∷ 0 ∷ start-of r ∷ 0 ∷ 0 ∷ []

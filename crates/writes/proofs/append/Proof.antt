@@ -6,9 +6,9 @@ use mathlib.Core.Path.{ap, _∙_}
 use lib.ListN.{length, length-set}
 use Rattle.rules.specs.Terms.{State}
 use Rattle.slices.proofs.Slices.{length-tail, tail-written}
-use Rattle.writes.specs.Room.{FreeRow}
-use Rattle.writes.proofs.Packing.{roomy-lengths, add-after, learn-after}
-use Rattle.writes.proofs.Squeezing.{freed-new, freed-clause, freed-moves}
+use Rattle.room.specs.Room.{FreeRow}
+use Rattle.room.proofs.Packing.{roomy-lengths}
+use Rattle.writes.proofs.Roomed.{add-after, learn-after}
 use borrow.Author.Needs.{needs}
 use Rattle.writes.proofs.append.Statement.{statement}
 use Rattle.writes.proofs.append.Tie as tie
@@ -96,8 +96,8 @@ returns c =
     let r = x .before .before .before .before .free-row .ensures (s .args .pool .now) in
     let n = numbers x in
     let w = tail-written (u .last .1 .0) (s .args .lits .now) (u .result .top) (omega arith) (c .before .before .before .before .write-literals .last .0) (c .before .before .before .before .write-literals .ensures) in (
-      λ e stack f new ok. rw (w, e) (freed-moves (r stack f) (add-after (u .ensures stack (r stack f .fit)) (s .args .id) (s .args .lits .now) (n .0) (n .5) (n .1) (freed-new (r stack f) new) (freed-clause (r stack f) (s .args .lits .now) ok))),
-      λ e stack hints f new ok. rw (w, e) (freed-moves (r stack f) (learn-after (u .ensures stack (r stack f .fit)) (s .args .id) (s .args .lits .now) (n .0) (n .5) (n .1) (freed-new (r stack f) new) (freed-clause (r stack f) (s .args .lits .now) ok) hints)),
+      λ e stack f new ok. rw (w, e) (add-after (r stack f) (u .ensures stack (r stack f .fit)) (s .args .id) (s .args .lits .now) (n .0) (n .5) (n .1) new ok),
+      λ e stack hints f new ok. rw (w, e) (learn-after (r stack f) (u .ensures stack (r stack f .fit)) (s .args .id) (s .args .lits .now) (n .0) (n .5) (n .1) new ok hints),
     )
 
 pub append-spec : {M : Type 1} → statement M

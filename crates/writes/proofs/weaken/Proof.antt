@@ -6,14 +6,14 @@ use native.Mathlib.Omega.{arith}
 use lib.IntN.{ℤ}
 use lib.ListN.{length, set, take, drop}
 use Rattle.table.specs.Spelled.{Row, row-at, length-of, size, clause-part, Inside, Fit}
-use Rattle.writes.specs.Moved.{Weakenable}
-use Rattle.writes.specs.Room.{Roomy, lessened, blank-row}
+use Rattle.room.specs.Room.{Roomy}
+use Rattle.writes.specs.Moved.{Weakenable, lessened, blank-row}
 use Rattle.table.specs.declared.Table.{Table}
 use Rattle.slices.proofs.Slices.{part-is, over-front}
 use Rattle.table.proofs.Rows.{clause-length}
 use Rattle.table.proofs.Readers.{row-inside}
 use Rattle.writes.proofs.Moves.{row-held, row-short}
-use Rattle.writes.proofs.Packing.{roomy-is}
+use Rattle.room.proofs.Packing.{roomy-is}
 use Rattle.writes.proofs.Weakening.{blank-fit, record-numbers, weaken-moves}
 use borrow.Author.Needs.{needs}
 use Rattle.writes.proofs.weaken.Statement.{statement}

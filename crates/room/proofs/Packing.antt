@@ -1,7 +1,6 @@
 -- All parts together at the pool's front, each row's behind the one before it: the entries stay what they were.
 use mathlib.Core.Path.{_≡_, refl, sym, _∙_, ap}
 use mathlib.Core.Logic.{inl, inr}
-use mathlib.Core.Bool.{true}
 use mathlib.Core.List.{List, [], _∷_, _++_, map, append-assoc, append-nil}
 use Prim.Native.Nat.{ℕ, suc, _+_, _<_, _≤_}
 use native.Mathlib.Numerals.{add-one}
@@ -9,19 +8,17 @@ use native.Mathlib.Omega.{arith}
 use lib.IntN.{ℤ}
 use lib.ListN.{length, getD, set, take, drop, length-drop, length-append}
 use lib.Seq.{take-append-le, length-take-le, take-suc, drop-cons, split-at, getD-take, take-at, drop-at, getD-at, set-at, append-snoc, take-take, drop-drop, take-add}
-use Rattle.rules.specs.Terms.{State, is-clause}
-use Rattle.rules.specs.Frames.{Frame, ADD, LEARN, next}
+use Rattle.rules.specs.Terms.{State}
 use Rattle.table.specs.Facts.{All, none, both, Pairs, alone, ahead, total}
 use Rattle.table.specs.Spelled.{Row, row-at, id-of, start-of, length-of, witness-of, size, part, clause-part, witness-part, held-rows, Rising, Inside, Clear, gone-one, Fit, Entry, entry}
-use Rattle.writes.specs.Moved.{Moved, New}
 use Rattle.slices.specs.Writes.{over, written}
-use Rattle.writes.specs.Room.{pointed, packed, joined, Gathered, Roomy}
+use Rattle.room.specs.Room.{pointed, packed, joined, Gathered, Roomy}
 use Rattle.table.specs.declared.Table.{Table}
 use Rattle.table.proofs.Facts.{all-here, all-more, all-map, all-unmap, total-join}
 use Rattle.slices.proofs.Slices.{length-over}
 use Rattle.table.proofs.Entries.{spell, clauses-spell}
 use Rattle.table.proofs.Rows.{LawfulEntry}
-use Rattle.writes.proofs.Moves.{refit, spelled-is, appended, add-moves, learn-moves}
+use Rattle.room.proofs.Refits.{refit, spelled-is}
 
 -- ---- one more row
 
@@ -233,7 +230,7 @@ module _ {t : Table} {rows₀ : List Row} {pool : List ℤ} {stack : List ℕ} (
           room = omega (arith, g .at-is, f .core .counted);
         }
 
--- ---- first room, then the frame
+-- ---- what is said of room
 
 pub roomy-is : {t u : Table} {rows rows₀ : List Row} {pool : List ℤ} {stack : List ℕ} {t′ : Table} {rows′ : List Row} {pool′ : List ℤ} {n m : ℕ} →
     t ≡ u → rows ≡ rows₀ → n ≡ m → Roomy t rows pool stack t′ rows′ pool′ n → Roomy u rows₀ pool stack t′ rows′ pool′ m
@@ -242,19 +239,3 @@ roomy-is a b c r = rw (a, b, c) at r
 module _ {t : Table} {rows : List Row} {pool : List ℤ} {stack : List ℕ} {t′ : Table} {rows′ : List Row} {pool′ : List ℤ} {n : ℕ} (m : Roomy t rows pool stack t′ rows′ pool′ n) where
   pub roomy-lengths : (length rows′ ≡ length rows) × (length pool′ ≡ length pool)
   roomy-lengths = (m .long, ap (λ (s : State). s .words) (m .same))
-
-  moved-after : {t″ : Table} {rows″ : List Row} {pool″ : List ℤ} {g : Frame} → Moved t′ rows′ pool′ stack t″ rows″ pool″ stack g → Moved t rows pool stack t″ rows″ pool″ stack g
-  moved-after {g} k = record { fit = k .fit; state = k .state ∙ ap (λ s. next s g) (m .same) }
-
-  module _ (id : ℕ) (lits : List ℤ) (room : t′ .count < length rows′) (spare : t′ .count < t′ .entries + t′ .gone) (fits : t′ .top + length lits ≤ length pool′) (new : New t id) (ok : is-clause (t .vars) lits ≡ true) where
-    still-new : New t′ id
-    still-new = (omega (arith, new .0, ap (λ (s : State). s .highest) (m .same)), new .1)
-
-    still-ok : is-clause (t′ .vars) lits ≡ true
-    still-ok = let v = ap (λ (s : State). s .vars) (m .same) in rw v ok
-
-    pub add-after : Moved t rows pool stack (appended t′ id (length lits)) (set rows′ (t′ .count) (id ∷ 0 ∷ t′ .top ∷ length lits ∷ 0 ∷ [])) (written pool′ (t′ .top) lits) stack (ADD id lits)
-    add-after = moved-after (add-moves (m .fit) id lits room spare fits still-new still-ok)
-
-    pub learn-after : (hints : List ℤ) → Moved t rows pool stack (appended t′ id (length lits)) (set rows′ (t′ .count) (id ∷ 1 ∷ t′ .top ∷ length lits ∷ 0 ∷ [])) (written pool′ (t′ .top) lits) stack (LEARN id lits hints)
-    learn-after hints = moved-after (learn-moves (m .fit) id lits room spare fits still-new still-ok hints)

@@ -1,8 +1,8 @@
--- `writes::squeeze` meets its contract.
-use Rattle.writes.proofs.Squeezing.{squeezes}
+-- `room::squeeze` meets its contract.
+use Rattle.room.proofs.Squeezing.{squeezes}
 use borrow.Author.Needs.{needs}
-use Rattle.writes.proofs.squeeze.Statement.{statement}
-use Rattle.writes.proofs.squeeze.Tie as tie
+use Rattle.room.proofs.squeeze.Statement.{statement}
+use Rattle.room.proofs.squeeze.Tie as tie
 
 cast-close-up : tie.Need-cast-close-up
 cast-close-up c = search needs

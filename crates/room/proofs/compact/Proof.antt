@@ -1,11 +1,11 @@
--- `writes::compact` meets its contract: what was gathered is written back to the pool's front.
+-- `room::compact` meets its contract: what was gathered is written back to the pool's front.
 use mathlib.Core.Path.{_≡_}
 use Prim.Native.Nat.{_-_}
 use native.Mathlib.Omega.{arith}
-use Rattle.writes.proofs.Packing.{compact-roomy}
+use Rattle.room.proofs.Packing.{compact-roomy}
 use borrow.Author.Needs.{needs}
-use Rattle.writes.proofs.compact.Statement.{statement}
-use Rattle.writes.proofs.compact.Tie as tie
+use Rattle.room.proofs.compact.Statement.{statement}
+use Rattle.room.proofs.compact.Tie as tie
 
 slice-aggregate-gather : tie.Need-slice-aggregate-gather
 slice-aggregate-gather c = search needs

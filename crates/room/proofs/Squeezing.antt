@@ -11,8 +11,7 @@ use lib.ListN.{length, set, take, drop, length-set}
 use lib.Seq.{length-take-le, take-suc, drop-set-lt}
 use borrow.Author.Tests.{eqb-true}
 use Rattle.rules.specs.Lists.{only}
-use Rattle.rules.specs.Terms.{State, is-clause}
-use Rattle.rules.specs.Frames.{Frame, next}
+use Rattle.rules.specs.Terms.{State}
 use Rattle.rules.proofs.Lists.{by-cases, from-index}
 use Rattle.slices.proofs.Slices.{take-next}
 use Rattle.table.specs.Facts.{All, none, both, Pairs, alone, ahead, total}
@@ -20,9 +19,8 @@ use Rattle.table.specs.Spelled.{Row, row-at, place-of, size, held, stands, clau
 use Rattle.table.specs.declared.Table.{Table}
 use Rattle.table.proofs.Facts.{all-more, all-both}
 use Rattle.table.proofs.Rows.{clause-length, witness-length, lawful-gone}
-use Rattle.writes.specs.Moved.{Moved, New}
-use Rattle.writes.specs.Room.{present, Closing, Squeezed, FreeRow}
-use Rattle.writes.proofs.Moves.{refit}
+use Rattle.room.specs.Room.{present, Closing, Squeezed, FreeRow}
+use Rattle.room.proofs.Refits.{refit}
 
 -- ---- some elements of a list
 
@@ -169,15 +167,3 @@ module _ {t : Table} {rows : List Row} {pool : List ℤ} {stack : List ℕ} (f :
       let k = s .kept in
       let n = s .none-gone in
       record { fit = s .fit; same = s .same; row = omega (arith, s .fit .entries-fit); entry = omega arith; words = s .words; long = s .long }
-
--- ---- first a free row, then the frame
-
-module _ {t : Table} {rows : List Row} {pool : List ℤ} {stack : List ℕ} {t′ : Table} {rows′ : List Row} (r : FreeRow t rows pool stack t′ rows′) where
-  pub freed-new : {id : ℕ} → New t id → New t′ id
-  freed-new new = (omega (arith, new .0, ap (λ (s : State). s .highest) (r .same)), new .1)
-
-  pub freed-clause : (lits : List ℤ) → is-clause (t .vars) lits ≡ true → is-clause (t′ .vars) lits ≡ true
-  freed-clause lits ok = let v = ap (λ (s : State). s .vars) (r .same) in rw v ok
-
-  pub freed-moves : {t″ : Table} {rows″ : List Row} {pool″ : List ℤ} {stack″ : List ℕ} {g : Frame} → Moved t′ rows′ pool stack t″ rows″ pool″ stack″ g → Moved t rows pool stack t″ rows″ pool″ stack″ g
-  freed-moves {g} k = record { fit = k .fit; state = k .state ∙ ap (λ s. next s g) (r .same) }

@@ -10,6 +10,10 @@ use Rattle.table.specs.Facts.{total}
 use Rattle.table.specs.Spelled.{Row, id-of, place-of, start-of, length-of, witness-of, size, part, stands, entry, held-rows, spelled, Fit}
 use Rattle.table.specs.declared.Table.{Table}
 
+-- with some stack: for writers that do not touch it
+abbrev pub Fits : Table → List Row → List ℤ → Type 0
+Fits t rows pool = (stack : List ℕ) × Fit t rows pool stack
+
 -- the row, with its part at `at`
 abbrev pub pointed : ℕ → Row → Row
 pointed at r = id-of r ∷ place-of r ∷ at ∷ length-of r ∷ witness-of r ∷ []
@@ -72,14 +76,3 @@ pub record FreeRow (t : Table) (rows : List Row) (pool : List ℤ) (stack : List
   pub entry : t′ .count < t′ .entries + t′ .gone
   pub words : t′ .words ≡ t .words
   pub long : length rows′ ≡ length rows
-
--- ---- WEAKEN, in two halves: the row gives up its words, a record takes them and the witness's
-
-abbrev pub lessened : Table → ℕ → Table
-lessened t n = record { vars = t .vars; highest = t .highest; entries = t .entries; count = t .count; gone = t .gone; words = t .words - n; depth = t .depth; top = t .top }
-
-abbrev pub grown : Table → ℕ → Table
-grown t n = record { vars = t .vars; highest = t .highest; entries = t .entries; count = t .count; gone = t .gone; words = t .words + n; depth = t .depth + 1; top = t .top + n }
-
-abbrev pub blank-row : Row → Row
-blank-row r = id-of r ∷ 0 ∷ start-of r ∷ 0 ∷ 0 ∷ []

@@ -1,10 +1,10 @@
--- `writes::free_row` meets its contract.
+-- `room::free_row` meets its contract.
 use mathlib.Core.Path.{refl}
 use native.Mathlib.Omega.{arith}
-use Rattle.writes.proofs.Squeezing.{squeezed-frees}
+use Rattle.room.proofs.Squeezing.{squeezed-frees}
 use borrow.Author.Needs.{needs}
-use Rattle.writes.proofs.free_row.Statement.{statement}
-use Rattle.writes.proofs.free_row.Tie as tie
+use Rattle.room.proofs.free_row.Statement.{statement}
+use Rattle.room.proofs.free_row.Tie as tie
 
 cast-count : tie.Need-cast-count
 cast-count c = search needs

@@ -1,9 +1,9 @@
--- `writes::make_room` meets its contract: by compaction, or because the tail is long enough.
+-- `room::make_room` meets its contract: by compaction, or because the tail is long enough.
 use mathlib.Core.Path.{refl}
 use native.Mathlib.Omega.{arith}
 use borrow.Author.Needs.{needs}
-use Rattle.writes.proofs.make_room.Statement.{statement}
-use Rattle.writes.proofs.make_room.Tie as tie
+use Rattle.room.proofs.make_room.Statement.{statement}
+use Rattle.room.proofs.make_room.Tie as tie
 
 cast-top : tie.Need-cast-top
 cast-top c = search needs

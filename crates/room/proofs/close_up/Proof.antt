@@ -1,14 +1,14 @@
--- `writes::close_up` meets its contract. The loop's invariant: the first i rows are closed up to k.
+-- `room::close_up` meets its contract. The loop's invariant: the first i rows are closed up to k.
 use mathlib.Core.Path.{_≡_, ap}
 use mathlib.Core.Bool.{not}
 use Prim.Native.Nat.{_-_, _≤_}
 use native.Mathlib.Omega.{arith}
 use borrow.Author.Tests.{eq-eqb, ne-eqb}
-use Rattle.writes.specs.Room.{Closing}
-use Rattle.writes.proofs.Squeezing.{closing-start, closing-kept, closing-left-out}
+use Rattle.room.specs.Room.{Closing}
+use Rattle.room.proofs.Squeezing.{closing-start, closing-kept, closing-left-out}
 use borrow.Author.Needs.{needs}
-use Rattle.writes.proofs.close_up.Statement.{statement}
-use Rattle.writes.proofs.close_up.Tie as tie
+use Rattle.room.proofs.close_up.Statement.{statement}
+use Rattle.room.proofs.close_up.Tie as tie
 
 abbrev Inv-loop : tie.InvT-loop
 Inv-loop rows₀ count i₀ k₀ rows i k = Closing rows₀ i k rows × (i ≤ count)

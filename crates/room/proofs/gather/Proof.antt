@@ -1,4 +1,4 @@
--- `writes::gather` meets its contract. The loop's invariant: the first i rows are packed, and their parts stand in the buffer.
+-- `room::gather` meets its contract. The loop's invariant: the first i rows are packed, and their parts stand in the buffer.
 use mathlib.Core.Path.{_≡_, refl, sym, _∙_}
 use mathlib.Core.List.{List}
 use Prim.Native.Nat.{_+_, _-_, _≤_}
@@ -6,12 +6,12 @@ use native.Mathlib.Omega.{arith}
 use lib.IntN.{ℤ}
 use lib.ListN.{length, take, drop, length-set}
 use Rattle.table.specs.Spelled.{Row, row-at, start-of, size, part, Inside}
-use Rattle.writes.specs.Room.{Gathered}
+use Rattle.room.specs.Room.{Gathered}
 use Rattle.slices.proofs.Slices.{part-is, length-tail, tail-written, length-written}
-use Rattle.writes.proofs.Packing.{length-part, inside-here, room-here, gathered-next}
+use Rattle.room.proofs.Packing.{length-part, inside-here, room-here, gathered-next}
 use borrow.Author.Needs.{needs}
-use Rattle.writes.proofs.gather.Statement.{statement}
-use Rattle.writes.proofs.gather.Tie as tie
+use Rattle.room.proofs.gather.Statement.{statement}
+use Rattle.room.proofs.gather.Tie as tie
 
 abbrev Inv-loop : tie.InvT-loop
 Inv-loop rows₀ pool buffer₀ count i₀ at₀ rows buffer i at = Gathered rows₀ pool i at rows buffer × (i ≤ count) × (at ≤ length buffer) × (length rows ≡ length rows₀) × (length buffer ≡ length buffer₀)
