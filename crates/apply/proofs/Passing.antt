@@ -25,8 +25,8 @@ use Rattle.judge.specs.Judged.{RowOf, Judges}
 use Rattle.judge.specs.declared.Judged.{Judged}
 use Rattle.judge.specs.declared.Judged.the-variants as judged
 use Rattle.judge.proofs.Located.{fetches-it}
-use Rattle.stepped.specs.Told.{refused-with, accepted-with}
-use Rattle.apply.specs.Applied.{answer-of, Applied}
+use Rattle.stepped.specs.Told.{answer-of, refused-with, accepted-with}
+use Rattle.apply.specs.Applied.{Applied}
 
 -- ---- an application
 

@@ -4,24 +4,15 @@ use mathlib.Core.List.{List}
 use Prim.Native.Nat.{ℕ}
 use lib.IntN.{ℤ}
 use Rattle.rules.specs.Frames.{Frame}
-use Rattle.rules.specs.Answers.{check, Handed, untouched, mended, settled}
+use Rattle.rules.specs.Answers.{check}
 use Rattle.rules.specs.declared.Fault.{Fault}
-use Rattle.rules.specs.declared.Check.{Check}
 use Rattle.rules.specs.declared.Check.the-variants.{Passed, Failed}
-use Rattle.rules.specs.declared.Answer.{Answer}
-use Rattle.rules.specs.declared.Answer.the-variants.{Accepted, Refused}
-use Rattle.words.specs.Words.{assigned}
 use Rattle.table.specs.Spelled.{Row, spelled}
 use Rattle.writes.specs.Moved.{Moved}
 use Rattle.table.specs.declared.Table.{Table}
-use Rattle.stepped.specs.Told.{unless-refused}
+use Rattle.stepped.specs.Told.{answer-of, unless-refused}
 use Rattle.stepped.specs.declared.Stepped.{Stepped}
 use Rattle.stepped.specs.declared.Written.the-variants.{Tables}
-
--- the answer to a frame that hands out no model
-abbrev pub answer-of : Check → Answer
-answer-of Passed = Accepted 0
-answer-of (Failed e) = Refused e
 
 pub record Same (t : Table) (rows : List Row) (pool : List ℤ) (stack : List ℕ) (t′ : Table) (rows′ : List Row) (pool′ : List ℤ) (stack′ : List ℕ) : Type 0 where
   pub table : t′ ≡ t
@@ -34,13 +25,3 @@ pub record Applied (t : Table) (rows : List Row) (pool : List ℤ) (stack : List
   pub moved : check (spelled t rows pool stack) f ≡ Passed → Moved t rows pool stack (r .table) rows′ pool′ stack′ f
   pub left : (e : Fault) → check (spelled t rows pool stack) f ≡ Failed e → Same t rows pool stack (r .table) rows′ pool′ stack′
   pub told : r .written ≡ unless-refused Tables (r .answer)
-
--- the model buffer, of 32 words: the mended assignment's after an accepted SAT, else as it was
-abbrev pub Wrote : Handed → List ℕ → List ℕ → Type 0
-Wrote untouched model model′ = model′ ≡ model
-Wrote (mended α β) model model′ = assigned model′ ≡ β
-
--- an answer that writes no table
-pub record Answered (t : Table) (rows : List Row) (pool : List ℤ) (stack : List ℕ) (f : Frame) (r : Answer) (model model′ : List ℕ) : Type 0 where
-  pub answered : r ≡ settled (spelled t rows pool stack) f (check (spelled t rows pool stack) f) .answer
-  pub handed : Wrote (settled (spelled t rows pool stack) f (check (spelled t rows pool stack) f) .handed) model model′

@@ -1,18 +1,14 @@
-// One operation: judged by &, and applied by &mut only after its acceptance.
+// The operations that write: each judged by &, and applied by &mut only after its acceptance.
 ghost use mathlib.Core.Path.{_≡_};
 ghost use Prim.Native.Nat.{_+_, _≤_};
 ghost use lib.ListN.{length};
-ghost use Rattle.rules.specs.Frames.{ADD, LEARN, FORGET, PROMOTE, DROP, WEAKEN, RESTORE, SAT, UNSAT};
-ghost use Rattle.rules.specs.Answers.{check};
-ghost use Rattle.table.specs.Spelled.{Fit, spelled};
-ghost use Rattle.apply.specs.Applied.{Answered, Applied, answer-of};
+ghost use Rattle.rules.specs.Frames.{ADD, LEARN, FORGET, PROMOTE, DROP, WEAKEN, RESTORE};
+ghost use Rattle.table.specs.Spelled.{Fit};
+ghost use Rattle.apply.specs.Applied.{Applied};
 use judge::Judged;
-use rules::Answer;
 use rules::Check;
 use stepped::Stepped;
 use table::Table;
-
-// ---- the operations that write: judge, then apply
 
 pub fn add(
     rows: &mut [[u32; 5]],
@@ -119,51 +115,4 @@ pub fn restore(rows: &mut [[u32; 5]], pool: &[i32], stack: &mut [u32], t: Table,
         Judged::Refused(fault) => stepped::refused(fault, t),
         Judged::Accepted(k) => stepped::accepted(writes::restore(rows, stack, t, k)),
     }
-}
-
-// ---- the answers, which write no table
-
-// SAT: the offered assignment is mended by the walk down the stack; only an accepted one writes the model.
-pub fn sat(
-    rows: &[[u32; 5]],
-    pool: &[i32],
-    stack: &[u32],
-    t: Table,
-    assumed: &[i32],
-    vs: &[i32],
-    model: &mut [u64; 32],
-) -> Answer
-    requires { ⌜ Fit t (now rows) (now pool) (now stack) × (length (now assumed) ≤ 256) × (length (now vs) ≤ 4096) ⌝ }
-    ensures { λ r. ⌜ Answered t (now (rows .entry)) (now (pool .entry)) (now (stack .entry)) (SAT (now (assumed .entry)) (now (vs .entry))) r (now (model .entry)) (now (model .exit)) ⌝ }
-{
-    let offer = assumptions::judge_sat(rows, pool, stack, t, assumed, vs);
-    let check = offer.check;
-    if let Check::Failed(fault) = check {
-        return Answer::Refused(fault);
-    }
-    let offered = offer.offered;
-    let n = t.count as usize;
-    let depth = t.depth as usize;
-    let mended = walk::mend(&rows[..n], pool, &stack[..depth], offered);
-    let changed = words::changed(&offered, &mended);
-    *model = mended;
-    Answer::Accepted(changed)
-}
-
-pub fn unsat(
-    rows: &[[u32; 5]],
-    pool: &[i32],
-    stack: &[u32],
-    t: Table,
-    assumed: &[i32],
-    hints: &[i32],
-) -> Answer
-    requires { ⌜ Fit t (now rows) (now pool) (now stack) × (length (now assumed) ≤ 256) × (length (now hints) ≤ 4096) ⌝ }
-    ensures { λ r. ⌜ r ≡ answer-of (check (spelled t (now (rows .entry)) (now (pool .entry)) (now (stack .entry))) (UNSAT (now (assumed .entry)) (now (hints .entry)))) ⌝ }
-{
-    let check = assumptions::judge_unsat(rows, pool, stack, t, assumed, hints);
-    if let Check::Failed(fault) = check {
-        return Answer::Refused(fault);
-    }
-    Answer::Accepted(0)
 }

@@ -25,7 +25,7 @@ use Rattle.lent.specs.State.{is-state, state-of, spelled}
 use Rattle.lent.specs.declared.Carried.{Carried}
 use Rattle.lent.proofs.Stored.{stored-is-state, stored-spells}
 use Rattle.stepped.specs.Told.{unless-refused}
-use Rattle.apply.specs.Applied.{Wrote}
+use Rattle.answers.specs.Answered.{Wrote}
 use Rattle.stepped.specs.declared.Stepped.{Stepped}
 use Rattle.stepped.specs.declared.Written.{Written}
 use Rattle.stepped.specs.declared.Written.the-variants.{Nothing, Tables, Model}

@@ -25,7 +25,7 @@ use Rattle.words.proofs.Assigned.{words-fixed}
 use Rattle.entries.specs.declared.Entry.{Entry}
 use Rattle.lent.specs.declared.Carried.{Carried}
 use Rattle.stepped.specs.Told.{unless-refused}
-use Rattle.apply.specs.Applied.{Wrote}
+use Rattle.answers.specs.Answered.{Wrote}
 use Rattle.stepped.specs.declared.Written.the-variants.{Tables}
 use Rattle.steps.specs.Steps.{writes}
 use Rattle.checker.specs.Calls.{state-lent, said, answer-to, handed-by, Stepping}

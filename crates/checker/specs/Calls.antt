@@ -17,7 +17,7 @@ use Rattle.rules.specs.declared.Check.the-variants.{Passed, Failed}
 use Rattle.rules.specs.declared.Fault.{Fault}
 use Rattle.rules.specs.declared.Fault.the-variants.{NoState}
 use Rattle.stepped.specs.Told.{unless-refused}
-use Rattle.apply.specs.Applied.{Wrote}
+use Rattle.answers.specs.Answered.{Wrote}
 use Rattle.stepped.specs.declared.Written.the-variants.{Tables}
 use Rattle.steps.specs.Steps.{writes}
 use Rattle.entries.specs.Lent.{row-of}

@@ -16,7 +16,7 @@ use Rattle.slices.specs.Writes.{over}
 use Rattle.table.specs.Spelled.{Row}
 use Rattle.table.specs.declared.Table.{Table}
 use Rattle.stepped.specs.Told.{unless-refused}
-use Rattle.apply.specs.Applied.{Wrote}
+use Rattle.answers.specs.Answered.{Wrote}
 use Rattle.stepped.specs.declared.Written.the-variants.{Tables}
 use Rattle.steps.specs.Steps.{writes}
 use Rattle.entries.specs.Lent.{row-of, vacant-rows}

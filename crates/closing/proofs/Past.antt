@@ -18,7 +18,7 @@ use Rattle.rules.proofs.Lists.{by-cases, and-left}
 use Rattle.rules.proofs.Checks.{then-left, then-right, need-true}
 use Rattle.table.specs.Spelled.{Row, spelled, Fit}
 use Rattle.table.specs.declared.Table.{Table}
-use Rattle.apply.proofs.Mending.{past-vars}
+use Rattle.answers.proofs.Mending.{past-vars}
 use Rattle.replies.proofs.Model.{trues-past}
 
 not-same : (vars : ℕ) (x : ℤ) (v : ℕ) → in-range vars x ≡ true → vars < v → same x (pos v) ≡ false

@@ -15,7 +15,7 @@ use Rattle.rules.specs.declared.Answer.the-variants.{Refused}
 use Rattle.rules.specs.declared.Fault.the-variants.{Malformed}
 use Rattle.table.specs.Spelled.{Row, spelled, Fit}
 use Rattle.table.specs.declared.Table.{Table}
-use Rattle.apply.specs.Applied as applied
+use Rattle.answers.specs.Answered as answered
 use Rattle.stepped.specs.Told.{unless-refused}
 use Rattle.stepped.specs.declared.Stepped.{Stepped}
 use Rattle.steps.specs.Steps.{Steps, writes}
@@ -31,7 +31,7 @@ module _ {t : Table} {rows : List Row} {pool : List ℤ} {stack : List ℕ} (fit
   abbrev s : State
   s = spelled t rows pool stack
 
-  followed : (f : Frame) (k : Check) → check s f ≡ k → applied.Wrote (settled s f k .handed) model model′ → listed (unless-refused (writes (framed f)) (settled s f k .answer)) model′ ≡ following (t .vars) (settled s f k .handed)
+  followed : (f : Frame) (k : Check) → check s f ≡ k → answered.Wrote (settled s f k .handed) model model′ → listed (unless-refused (writes (framed f)) (settled s f k .answer)) model′ ≡ following (t .vars) (settled s f k .handed)
   followed f (Failed e) q h = refl
   followed (ADD i c) Passed q h = refl
   followed (LEARN i c hints) Passed q h = refl
@@ -43,7 +43,7 @@ module _ {t : Table} {rows : List Row} {pool : List ℤ} {stack : List ℕ} (fit
   followed (SAT assumed vs) Passed q h = ap (λ β. trues β 2048 []) h ∙ trues-within fit assumed vs q
   followed (UNSAT assumed hints) Passed q h = refl
 
-  follows : (p : Parsed) → applied.Wrote (outcome-parsed s p .handed) model model′ → listed (unless-refused (writes p) (outcome-parsed s p .answer)) model′ ≡ following (t .vars) (outcome-parsed s p .handed)
+  follows : (p : Parsed) → answered.Wrote (outcome-parsed s p .handed) model model′ → listed (unless-refused (writes p) (outcome-parsed s p .answer)) model′ ≡ following (t .vars) (outcome-parsed s p .handed)
   follows malformed h = refl
   follows (framed f) h = followed f (check s f) refl h
 

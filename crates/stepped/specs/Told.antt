@@ -1,11 +1,18 @@
 -- What a frame came to, by its answer.
 use Rattle.rules.specs.declared.Fault.{Fault}
+use Rattle.rules.specs.declared.Check.{Check}
+use Rattle.rules.specs.declared.Check.the-variants.{Passed, Failed}
 use Rattle.rules.specs.declared.Answer.{Answer}
 use Rattle.rules.specs.declared.Answer.the-variants.{Accepted, Refused}
 use Rattle.table.specs.declared.Table.{Table}
 use Rattle.stepped.specs.declared.Stepped.{Stepped}
 use Rattle.stepped.specs.declared.Written.{Written}
 use Rattle.stepped.specs.declared.Written.the-variants.{Nothing, Tables}
+
+-- the answer to a frame that hands out no model
+abbrev pub answer-of : Check → Answer
+answer-of Passed = Accepted 0
+answer-of (Failed e) = Refused e
 
 abbrev pub refused-with : Fault → Table → Stepped
 refused-with e t = record { answer = Refused e; table = t; written = Nothing }

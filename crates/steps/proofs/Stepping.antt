@@ -15,8 +15,9 @@ use Rattle.rules.specs.declared.Check.the-variants.{Passed, Failed}
 use Rattle.rules.specs.declared.Answer.{Answer}
 use Rattle.table.specs.Spelled.{Row, spelled, Fit}
 use Rattle.table.specs.declared.Table.{Table}
-use Rattle.stepped.specs.Told.{refused-with, unless-refused, answered-with}
-use Rattle.apply.specs.Applied.{answer-of, Same, Applied, Answered}
+use Rattle.stepped.specs.Told.{answer-of, refused-with, unless-refused, answered-with}
+use Rattle.apply.specs.Applied.{Same, Applied}
+use Rattle.answers.specs.Answered.{Answered}
 use Rattle.stepped.specs.declared.Stepped.{Stepped}
 use Rattle.stepped.specs.declared.Written.{Written}
 use Rattle.stepped.specs.declared.Written.the-variants.{Tables}

@@ -8,7 +8,8 @@ use Rattle.rules.specs.Answers.{outcome}
 use Rattle.table.specs.Spelled.{Row, spelled, Fit}
 use Rattle.table.specs.declared.Table.{Table}
 use Rattle.stepped.specs.Told.{unless-refused}
-use Rattle.apply.specs.Applied.{Same, Wrote}
+use Rattle.apply.specs.Applied.{Same}
+use Rattle.answers.specs.Answered.{Wrote}
 use Rattle.stepped.specs.declared.Stepped.{Stepped}
 use Rattle.stepped.specs.declared.Written.{Written}
 use Rattle.stepped.specs.declared.Written.the-variants.{Nothing, Tables, Model}

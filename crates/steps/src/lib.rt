@@ -36,12 +36,12 @@ pub fn step(
         Head::Restore(id) => apply::restore(rows, pool, stack, t, id),
         Head::Sat(n) => {
             let end = 2 + n;
-            let answer = apply::sat(rows, pool, stack, t, &frame[2..end], &frame[end..], model);
+            let answer = answers::sat(rows, pool, stack, t, &frame[2..end], &frame[end..], model);
             stepped::answered(answer, Written::Model, t)
         }
         Head::Unsat(n) => {
             let end = 2 + n;
-            let answer = apply::unsat(rows, pool, stack, t, &frame[2..end], &frame[end..]);
+            let answer = answers::unsat(rows, pool, stack, t, &frame[2..end], &frame[end..]);
             stepped::answered(answer, Written::Nothing, t)
         }
     }

@@ -3,14 +3,14 @@ use Rattle.rules.specs.Frames.{Frame, SAT, offered}
 use Rattle.rules.specs.declared.Check.the-variants.{Passed}
 use Rattle.words.specs.Words.{assigned}
 use Rattle.assumptions.specs.Offered.{Offers}
-use Rattle.apply.proofs.Mending.{sat-refused, sat-accepted}
+use Rattle.answers.proofs.Mending.{sat-refused, sat-accepted}
 use Rattle.rules.specs.Answers.{check}
 use Rattle.table.specs.Spelled.{spelled}
 use Rattle.table.proofs.Readers.{readable, count-rows}
 use Rattle.judge.proofs.Stack.{stacked, depth-is}
 use borrow.Author.Needs.{needs}
-use Rattle.apply.proofs.sat.Statement.{statement}
-use Rattle.apply.proofs.sat.Tie as tie
+use Rattle.answers.proofs.sat.Statement.{statement}
+use Rattle.answers.proofs.sat.Tie as tie
 
 -- what was judged
 module _ (x : tie.After-judge-sat) where

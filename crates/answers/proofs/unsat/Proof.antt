@@ -2,10 +2,10 @@ use mathlib.Core.Path.{_≡_, sym, _∙_, ap}
 use Rattle.rules.specs.Frames.{UNSAT}
 use Rattle.rules.specs.Answers.{check}
 use Rattle.table.specs.Spelled.{spelled}
-use Rattle.apply.specs.Applied.{answer-of}
+use Rattle.stepped.specs.Told.{answer-of}
 use borrow.Author.Needs.{needs}
-use Rattle.apply.proofs.unsat.Statement.{statement}
-use Rattle.apply.proofs.unsat.Tie as tie
+use Rattle.answers.proofs.unsat.Statement.{statement}
+use Rattle.answers.proofs.unsat.Tie as tie
 
 -- what was judged
 module _ (x : tie.After-judge-unsat) where

@@ -22,7 +22,7 @@ use Rattle.words.proofs.Counted.{differ-within}
 use Rattle.table.specs.Facts.{All, none, both}
 use Rattle.table.specs.Spelled.{Row, place-of, held, stands, clauses, spelled, Lawful, Fit}
 use Rattle.table.specs.declared.Table.{Table}
-use Rattle.apply.specs.Applied.{Answered}
+use Rattle.answers.specs.Answered.{Answered}
 
 -- ---- literals within V
 

@@ -1,0 +1,2 @@
+-- How the walk makes an answer.
+pub mod Mending

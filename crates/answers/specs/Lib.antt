@@ -1,0 +1,2 @@
+-- What an answer hands out.
+pub mod Answered
