@@ -9,7 +9,7 @@ ghost use Rattle.rules.specs.Answers as paper;
 ghost use Rattle.words.specs.Words.{assigned};
 ghost use Rattle.table.specs.Spelled.{Fit, spelled};
 ghost use Rattle.assumptions.specs.Offered.{Offers, check-offered};
-use hints::Scope;
+use propagation::Scope;
 use rules::Check;
 use table::Table;
 

@@ -17,9 +17,9 @@ use Rattle.rules.specs.declared.Check.{Check}
 use Rattle.rules.specs.declared.Check.the-variants.{Passed, Failed}
 use Rattle.rules.proofs.Lists.{from-index, by-cases}
 use Rattle.table.specs.Spelled.{Row, row-at, id-of, place-of, clause-part, held, Rising}
-use Rattle.hints.specs.Scope.{permits}
-use Rattle.hints.proofs.Scopes.{all-but}
-use Rattle.hints.proofs.Scopes as scopes
+use Rattle.propagation.specs.Scope.{permits}
+use Rattle.propagation.proofs.Scopes.{all-but}
+use Rattle.propagation.proofs.Scopes as scopes
 use Rattle.groups.specs.Groups.{others, is-due, groups-at, onward, Grouped}
 use Rattle.groups.specs.declared.Onward.{Onward}
 

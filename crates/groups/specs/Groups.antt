@@ -12,7 +12,7 @@ use Rattle.rules.specs.Answers.{_then_, decided, groups}
 use Rattle.rules.specs.declared.Check.{Check}
 use Rattle.rules.specs.declared.Check.the-variants.{Failed}
 use Rattle.table.specs.Spelled.{Row, held, clauses}
-use Rattle.hints.specs.Scope.{permits}
+use Rattle.propagation.specs.Scope.{permits}
 use Rattle.groups.specs.declared.Onward.{Onward}
 use Rattle.groups.specs.declared.Onward.the-variants.{Go, Stop}
 

@@ -1,6 +1,2 @@
--- The laws of propagation, bottom up: the allowed set, and what the steps' scopes allow; the scan of a clause; the hints in order; a target made false.
-pub mod Allowed
-pub mod Scopes
-pub mod Scan
-pub mod Runs
+-- The laws of a target made false.
 pub mod Target

@@ -15,8 +15,7 @@ use Rattle.rules.specs.declared.Verdict.{Verdict}
 use Rattle.rules.proofs.Lists.{from-index, by-cases, not-true, all-head, all-tail}
 use Rattle.rules.proofs.Literals.{clash, clash-sym, opposes-also, opposes-none}
 use Rattle.words.proofs.Sets.{changed-over}
-use Rattle.hints.specs.Target.{Made, opposed, falses, nothing, deny, make-false, judged}
-use Rattle.hints.specs.Scope.{made-of}
+use Rattle.hints.specs.Target.{Made, opposed, falses, made-of, nothing, deny, make-false, judged}
 use Rattle.hints.specs.declared.Falses.{Falses}
 
 abbrev none : Literals

@@ -1,3 +1,2 @@
--- The allowed set and what a hint names in it; a target made false.
+-- A target made false.
 pub mod Target
-pub mod Scope

@@ -6,11 +6,17 @@ use Rattle.rules.specs.Terms.{Literals, opposes}
 use Rattle.rules.specs.Propagation.{Allowed, also, run}
 use Rattle.rules.specs.declared.Verdict.{Verdict}
 use Rattle.rules.specs.declared.Verdict.the-variants.{Proved}
+use Rattle.words.specs.Words.{set-of}
+use Rattle.hints.specs.declared.Falses.{Falses}
 
 -- what a target comes to: it holds a literal and its opposite; else these literals are false
 pub data Made : Type 0 where
   opposed : Made
   falses : Literals → Made
+
+-- what the code hands on
+abbrev pub made-of : Falses → Made
+made-of m = cond (m .opposed) opposed (falses (set-of (m .plus) (m .minus)))
 
 -- no literal yet
 abbrev pub nothing : Made

@@ -1,5 +1,4 @@
-// Propagation by hints. The false literals are a set in two arrays: `plus` has the variables of its positive literals, which are false, and `minus` those of its
-// negative literals, which are true.
+// What hints prove of a target: its literals are made false, and propagation does the rest. The two arrays `plus` and `minus` are those of `propagation`.
 ghost use mathlib.Core.Path.{_≡_};
 ghost use mathlib.Core.Bool.{true, not};
 ghost use mathlib.Core.List.{map};
@@ -7,91 +6,13 @@ ghost use lib.IntN.{negℤ};
 ghost use Rattle.rules.specs.Lists.{all, only};
 ghost use Rattle.rules.specs.Terms.{in-range, opposes};
 ghost use Rattle.rules.specs.Frames.{target};
-ghost use Rattle.rules.specs.Propagation.{run};
 ghost use Rattle.rules.specs.Propagation as paper;
 ghost use Rattle.words.specs.Words.{set-of};
-ghost use Rattle.table.specs.Spelled.{Readable, Rising};
-ghost use Rattle.hints.specs.Target.{judged, make-false, nothing};
-ghost use Rattle.hints.specs.Scope.{Picked, Positive, allowed-of, made-of, run-of};
+ghost use Rattle.table.specs.Spelled.{Readable};
+ghost use Rattle.propagation.specs.Scope.{allowed-of};
+ghost use Rattle.hints.specs.Target.{judged, made-of, make-false, nothing};
+use propagation::Scope;
 use rules::Verdict;
-use table::Found;
-
-// The allowed set: the clauses whose place is below `places`, but for one id.
-pub struct Scope {
-    pub places: u32,
-    pub except: u32,
-}
-
-// The row of the allowed clause that a hint names. A negative word is 0 as a number, and no row has the id 0.
-fn pick(rows: &[[u32; 5]], scope: Scope, hint: i32) -> Found
-    requires { ⌜ Rising (now rows) × Positive (now rows) ⌝ }
-    ensures { λ r. ⌜ Picked (now (rows .entry)) scope hint r ⌝ }
-{
-    let Found::At(k) = table::find(rows, literal::number(hint) as u32) else {
-        return Found::Nothing;
-    };
-    if table::place_at(rows, k) < scope.places && table::id_at(rows, k) != scope.except {
-        return Found::At(k);
-    }
-    Found::Nothing
-}
-
-// How propagation ended, and which literals were false then.
-pub struct Outcome {
-    pub verdict: Verdict,
-    pub plus: [u64; 32],
-    pub minus: [u64; 32],
-}
-
-// Read the hints in order, until one of them decides.
-pub fn propagate(
-    rows: &[[u32; 5]],
-    pool: &[i32],
-    scope: Scope,
-    hints: &[i32],
-    mut plus: [u64; 32],
-    mut minus: [u64; 32],
-) -> Outcome
-    requires { ⌜ Readable (now rows) (now pool) ⌝ }
-    ensures { λ r. ⌜ run-of r ≡ run (allowed-of scope (now (pool .entry)) (now (rows .entry))) (set-of plus minus) 0 (now (hints .entry)) ⌝ }
-{
-    let mut verdict = Verdict::UsedUp;
-    let mut h: usize = 0;
-    'hints: while h < hints.len() {
-        let Found::At(k) = pick(rows, scope, hints[h]) else {
-            verdict = Verdict::BadHint(h);
-            break 'hints;
-        };
-        let clause = table::clause_of(rows, pool, k);
-        let mut open: i32 = 0;
-        let mut i: usize = 0;
-        loop {
-            if i == clause.len() {
-                if open == 0 {
-                    verdict = Verdict::Proved(h + 1);
-                    break 'hints;
-                }
-                break;
-            }
-            let l = clause[i];
-            if !words::has(&plus, &minus, l) {
-                if open != 0 || words::has_opposite(&plus, &minus, l) {
-                    verdict = Verdict::BadHint(h);
-                    break 'hints;
-                }
-                open = l;
-            }
-            i += 1;
-        }
-        words::insert(&mut plus, &mut minus, literal::opposite(open));
-        h += 1;
-    }
-    Outcome {
-        verdict,
-        plus,
-        minus,
-    }
-}
 
 // A target made false: it holds a literal and its opposite, or these literals are false.
 struct Falses {
@@ -148,7 +69,7 @@ fn judge(rows: &[[u32; 5]], pool: &[i32], scope: Scope, falses: Falses, hints: &
     }
     let plus = falses.plus;
     let minus = falses.minus;
-    let outcome = propagate(rows, pool, scope, hints, plus, minus);
+    let outcome = propagation::propagate(rows, pool, scope, hints, plus, minus);
     outcome.verdict
 }
 

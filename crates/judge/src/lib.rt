@@ -14,7 +14,7 @@ ghost use Rattle.rules.proofs.Propagation.{Stopped};
 ghost use Rattle.table.specs.Spelled.{Row, Fit, Readable, Rising, held-rows, spelled};
 ghost use Rattle.walk.specs.Records.{Stacked, records};
 ghost use Rattle.judge.specs.Judged.{Located-in, Judges};
-use hints::Scope;
+use propagation::Scope;
 use rules::Check;
 use rules::Fault;
 use rules::Verdict;

@@ -10,7 +10,7 @@ use Rattle.rules.specs.Answers.{decided, check-drop}
 use Rattle.table.specs.Spelled.{spelled}
 use Rattle.table.specs.declared.Found.{Found}
 use Rattle.table.proofs.Readers.{readable, count-rows, row-inside}
-use Rattle.hints.proofs.Scopes.{allows-others}
+use Rattle.propagation.proofs.Scopes.{allows-others}
 use Rattle.judge.specs.Judged.{Located-in, RowOf}
 use Rattle.judge.proofs.Located.{below-rows, ranged, has-it, fetches-it}
 use Rattle.judge.proofs.Order.{goes-on, stops, met, unmet}

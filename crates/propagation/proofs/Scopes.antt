@@ -15,9 +15,9 @@ use Rattle.rules.proofs.Lists.{by-cases}
 use Rattle.table.specs.Facts.{All, none, both, ahead}
 use Rattle.table.specs.Spelled.{Row, id-of, place-of, held, stands, clauses, Rising, Readable}
 use Rattle.table.proofs.Facts.{all-more, all-indexed}
-use Rattle.hints.specs.Scope.{permits, allowed-of}
-use Rattle.hints.specs.declared.Scope.{Scope}
-use Rattle.hints.proofs.Allowed.{among-cons, through, through-past, through-here}
+use Rattle.propagation.specs.Scope.{permits, allowed-of}
+use Rattle.propagation.specs.declared.Scope.{Scope}
+use Rattle.propagation.proofs.Allowed.{among-cons, through, through-past, through-here}
 
 only-same : {A : Type 0} {p q : A → Bool} {xs : List A} → All (λ x. p x ≡ q x) xs → only p xs ≡ only q xs
 unfolding only

@@ -1,6 +1,6 @@
 -- The allowed set, by a scope of the rows; what the functions hand back, in the paper's terms.
 use mathlib.Core.Path.{_≡_}
-use mathlib.Core.Bool.{Bool, not, cond, _&&_}
+use mathlib.Core.Bool.{Bool, not, _&&_}
 use mathlib.Core.List.{List, map}
 use Prim.Native.Nat.{ℕ, _<_}
 use lib.Dec.{eqb, ltb}
@@ -12,10 +12,8 @@ use Rattle.words.specs.Words.{set-of}
 use Rattle.table.specs.Spelled.{Row, row-at, id-of, place-of, clause-part, held}
 use Rattle.table.specs.declared.Found.{Found}
 use Rattle.table.specs.declared.Found.the-variants.{At, Nothing}
-use Rattle.hints.specs.Target.{Made, opposed, falses}
-use Rattle.hints.specs.declared.Scope.{Scope}
-use Rattle.hints.specs.declared.Outcome.{Outcome}
-use Rattle.hints.specs.declared.Falses.{Falses}
+use Rattle.propagation.specs.declared.Scope.{Scope}
+use Rattle.propagation.specs.declared.Outcome.{Outcome}
 
 -- the row's place is below `places`, and its id is another than `except`
 abbrev pub permits : Scope → Row → Bool
@@ -36,6 +34,3 @@ Picked rows scope hint Nothing = (pool : List ℤ) → named (allowed-of scope p
 -- the verdict, and the literals that are false then
 abbrev pub run-of : Outcome → Run
 run-of r = ended (r .verdict) (set-of (r .plus) (r .minus))
-
-abbrev pub made-of : Falses → Made
-made-of m = cond (m .opposed) opposed (falses (set-of (m .plus) (m .minus)))

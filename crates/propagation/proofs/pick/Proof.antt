@@ -12,11 +12,11 @@ use Rattle.literal.proofs.Signed.{said}
 use Rattle.table.specs.Spelled.{Row, row-at, clause-part, Located}
 use Rattle.table.specs.declared.Found.{Found}
 use Rattle.table.specs.declared.Found.the-variants.{At}
-use Rattle.hints.specs.Scope.{permits, allowed-of}
-use Rattle.hints.specs.declared.Scope.{Scope}
-use Rattle.hints.proofs.Allowed.{permits-far, permits-near, names-none, names-at}
-use Rattle.hints.proofs.pick.Statement.{statement}
-use Rattle.hints.proofs.pick.Tie as tie
+use Rattle.propagation.specs.Scope.{permits, allowed-of}
+use Rattle.propagation.specs.declared.Scope.{Scope}
+use Rattle.propagation.proofs.Allowed.{permits-far, permits-near, names-none, names-at}
+use Rattle.propagation.proofs.pick.Statement.{statement}
+use Rattle.propagation.proofs.pick.Tie as tie
 
 -- what was looked for, and what was found
 module _ (x : tie.After-find) where

@@ -18,8 +18,8 @@ use Rattle.table.specs.Facts.{All, none, both, ahead}
 use Rattle.table.specs.Spelled.{Row, row-at, id-of, place-of, clause-part, held, Rising, Located}
 use Rattle.table.specs.declared.Found.the-variants.{At, Nothing}
 use Rattle.table.proofs.Facts.{all-index, all-indexed, all-more}
-use Rattle.hints.specs.Scope.{permits, allowed-of, Positive}
-use Rattle.hints.specs.declared.Scope.{Scope}
+use Rattle.propagation.specs.Scope.{permits, allowed-of, Positive}
+use Rattle.propagation.specs.declared.Scope.{Scope}
 
 pub among-cons : (h : Held) (hs : List Held) (i : ℕ) → among (h ∷ hs) i ≡ cond (eqb (h .id) i) (clause (h .lits)) (among hs i)
 unfolding among any fetch

@@ -19,11 +19,11 @@ use Rattle.literal.proofs.Signed.{back, said, zero-bits, bits-zero, opposite-in
 use Rattle.words.specs.Words.{set-of}
 use Rattle.table.specs.declared.Found.{Found}
 use Rattle.table.specs.declared.Found.the-variants.{At}
-use Rattle.hints.specs.Scope.{allowed-of, Picked}
-use Rattle.hints.proofs.Scan.{Scanned, scan-start, scan-false, scan-bad, scan-open, scan-conflict, scan-forced}
-use Rattle.hints.proofs.Runs.{Running, run-used-up, run-nobody, run-conflict, run-bad, run-forced}
-use Rattle.hints.proofs.propagate.Statement.{statement}
-use Rattle.hints.proofs.propagate.Tie as tie
+use Rattle.propagation.specs.Scope.{allowed-of, Picked}
+use Rattle.propagation.proofs.Scan.{Scanned, scan-start, scan-false, scan-bad, scan-open, scan-conflict, scan-forced}
+use Rattle.propagation.proofs.Runs.{Running, run-used-up, run-nobody, run-conflict, run-bad, run-forced}
+use Rattle.propagation.proofs.propagate.Statement.{statement}
+use Rattle.propagation.proofs.propagate.Tie as tie
 
 abbrev Inv-loop : tie.InvT-loop
 Inv-loop rows pool scope hints plus minus verdict₀ h k c open₀ i₀ verdict «open» i = Scanned (set-of plus minus) c (toZ w32 «open») i × (verdict ≡ verdict₀)
