@@ -21,10 +21,11 @@ use Rattle.table.specs.declared.Table.{Table}
 use Rattle.table.proofs.Readers.{count-held, gone-most, words-held}
 use Rattle.rules.specs.Lists.{any}
 use Rattle.rules.proofs.Lists.{and-both}
-use Rattle.judge.specs.Judged.{RowOf, Judges}
+use Rattle.checks.specs.Located.{RowOf}
+use Rattle.checks.proofs.Located.{fetches-it}
+use Rattle.judge.specs.Judged.{Judges}
 use Rattle.judge.specs.declared.Judged.{Judged}
 use Rattle.judge.specs.declared.Judged.the-variants as judged
-use Rattle.judge.proofs.Located.{fetches-it}
 use Rattle.stepped.specs.Told.{answer-of, refused-with, accepted-with}
 use Rattle.apply.specs.Applied.{Applied}
 

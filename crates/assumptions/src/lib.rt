@@ -37,7 +37,7 @@ fn judge_offered(
     }
     let n = t.count as usize;
     let depth = t.depth as usize;
-    let clean = judge::cleanly(&rows[..n], pool, &stack[..depth], assumed);
+    let clean = checks::cleanly(&rows[..n], pool, &stack[..depth], assumed);
     if let Check::Failed(f) = clean {
         return Check::Failed(f);
     }
@@ -97,5 +97,5 @@ pub fn judge_unsat(
         except: 0,
     };
     let verdict = hints::refutes(&rows[..n], pool, scope, assumed, hints);
-    judge::decided(verdict, 2 + assumed.len(), 0)
+    checks::decided(verdict, 2 + assumed.len(), 0)
 }

@@ -107,7 +107,7 @@ fn group(
     let start = at + 2;
     let lits = table::clause_of(rows, pool, d);
     let verdict = hints::proves_with(rows, pool, scope, c, lits, wplus, wminus, &ws[start..end]);
-    let check = judge::decided(verdict, from + start, due);
+    let check = checks::decided(verdict, from + start, due);
     if let Check::Failed(f) = check {
         return Onward::Stop(f);
     }
@@ -166,7 +166,7 @@ pub fn judge_weaken(
     if let Check::Failed(f) = flaw {
         return Judged::Refused(f);
     }
-    let Found::At(k) = judge::locate(rows, t, 0, id) else {
+    let Found::At(k) = checks::locate(rows, t, 0, id) else {
         return Judged::Refused(Fault::Id(id));
     };
     let c = table::clause_of(rows, pool, k);

@@ -1,23 +1,13 @@
 // What each operation that writes the tables asks of them, in document 01's order; WEAKEN's judgment is in `groups`. Everything is lent by &, so that a refusal cannot write.
 ghost use mathlib.Core.Path.{_≡_};
-ghost use mathlib.Core.Bool.{true};
-ghost use mathlib.Core.List.{List};
-ghost use Prim.Native.Nat.{ℕ, _≤_};
-ghost use lib.Dec.{ltb};
+ghost use Prim.Native.Nat.{_≤_};
 ghost use lib.ListN.{length};
-ghost use Rattle.rules.specs.Lists.{all};
-ghost use Rattle.rules.specs.Terms.{in-range};
-ghost use Rattle.rules.specs.Answers.{_then_, need, unseen, free-entry, free-words};
 ghost use Rattle.rules.specs.Answers as paper;
-ghost use Rattle.rules.specs.declared.Fault.the-variants.{Id};
-ghost use Rattle.rules.proofs.Propagation.{Stopped};
-ghost use Rattle.table.specs.Spelled.{Row, Fit, Readable, Rising, held-rows, spelled};
-ghost use Rattle.walk.specs.Records.{Stacked, records};
-ghost use Rattle.judge.specs.Judged.{Located-in, Judges};
+ghost use Rattle.table.specs.Spelled.{Fit, spelled};
+ghost use Rattle.judge.specs.Judged.{Judges};
 use propagation::Scope;
 use rules::Check;
 use rules::Fault;
-use rules::Verdict;
 use table::Found;
 use table::Table;
 
@@ -26,81 +16,6 @@ pub enum Judged {
     Accepted(usize),
     Refused(Fault),
 }
-
-// ---- parts of several judgments
-
-// 4: the row of the clause of this id in this place.
-pub fn locate(rows: &[[u32; 5]], t: Table, place: u32, id: u32) -> Found
-    requires { ⌜ (t .count ≤ length (now rows)) × Rising (held-rows t (now rows)) ⌝ }
-    ensures { λ r. ⌜ Located-in t (now (rows .entry)) place id r ⌝ }
-{
-    let n = t.count as usize;
-    let Found::At(k) = table::find(&rows[..n], id) else {
-        return Found::Nothing;
-    };
-    if table::place_at(rows, k) == place {
-        return Found::At(k);
-    }
-    Found::Nothing
-}
-
-// 3, then 4: a clause under a new id, where `at` is the index of its first literal.
-fn new_clause(t: Table, id: u32, c: &[i32], at: usize) -> Check
-    requires { ⌜ (t .vars ≤ 2048) × (at ≤ 4096) × (length (now c) ≤ 4096) ⌝ }
-    ensures { λ r. ⌜ r ≡ (paper.flaw (t .vars) unseen at (now (c .entry)) then need (ltb (t .highest) id) (Id id)) ⌝ }
-{
-    let flaw = clause::flaw(t.vars as usize, c, at);
-    if let Check::Failed(f) = flaw {
-        return Check::Failed(f);
-    }
-    if id <= t.highest {
-        return Check::Failed(Fault::Id(id));
-    }
-    Check::Passed
-}
-
-// 5: the topmost of the records, whose ids `stack` has from the bottom, against which c is not clean.
-pub fn cleanly(rows: &[[u32; 5]], pool: &[i32], stack: &[u32], c: &[i32]) -> Check
-    requires { ⌜ Readable (now rows) (now pool) × Stacked (now pool) (now rows) (now stack) × (all (in-range 2048) (now c) ≡ true) ⌝ }
-    ensures { λ r. ⌜ r ≡ paper.cleanly (now (c .entry)) (records (now (pool .entry)) (now (rows .entry)) (now (stack .entry))) ⌝ }
-{
-    let marks = clause::mark(c);
-    let plus = marks.plus;
-    let minus = marks.minus;
-    walk::cleanly(rows, pool, stack, &plus, &minus)
-}
-
-// 7 and 8: `at` is the index of the first hint, `d` the detail of 8.
-pub fn decided(verdict: Verdict, at: usize, d: u32) -> Check
-    requires { ⌜ (at ≤ 4096) × Stopped 4096 verdict ⌝ }
-    ensures { λ r. ⌜ r ≡ paper.decided at d verdict ⌝ }
-{
-    match verdict {
-        Verdict::Proved(_) => Check::Passed,
-        Verdict::BadHint(n) => Check::Failed(Fault::Hint(at + n)),
-        Verdict::UsedUp => Check::Failed(Fault::Unproved(d)),
-    }
-}
-
-// 12, then 13: room for a clause of n literals, by the counts alone.
-fn room(pool: &[i32], t: Table, n: usize) -> Check
-    requires { ⌜ n ≤ 256 ⌝ }
-    ensures { λ r. ⌜ ((rows : List Row) (stack : List ℕ) → Fit t rows (now (pool .entry)) stack
-        → r ≡ (free-entry (spelled t rows (now (pool .entry)) stack) then free-words (spelled t rows (now (pool .entry)) stack) n)) ⌝ }
-{
-    let count = t.count as usize;
-    let most = t.entries as usize + t.gone as usize;
-    let words = t.words as usize + n;
-    if most <= count {
-        return Check::Failed(Fault::NoEntry);
-    }
-    if pool.len() < words {
-        return Check::Failed(Fault::NoWords);
-    }
-    Check::Passed
-}
-
-// ---- the operations
 
 pub fn judge_add(
     rows: &[[u32; 5]],
@@ -113,17 +28,17 @@ pub fn judge_add(
     requires { ⌜ Fit t (now rows) (now pool) (now stack) × (length (now c) ≤ 256) ⌝ }
     ensures { λ r. ⌜ r ≡ paper.check-add (spelled t (now (rows .entry)) (now (pool .entry)) (now (stack .entry))) id (now (c .entry)) ⌝ }
 {
-    let sound = new_clause(t, id, c, 2);
+    let sound = checks::new_clause(t, id, c, 2);
     if let Check::Failed(f) = sound {
         return Check::Failed(f);
     }
     let n = t.count as usize;
     let depth = t.depth as usize;
-    let clean = cleanly(&rows[..n], pool, &stack[..depth], c);
+    let clean = checks::cleanly(&rows[..n], pool, &stack[..depth], c);
     if let Check::Failed(f) = clean {
         return Check::Failed(f);
     }
-    room(pool, t, c.len())
+    checks::room(pool, t, c.len())
 }
 
 pub fn judge_learn(
@@ -138,11 +53,11 @@ pub fn judge_learn(
     requires { ⌜ Fit t (now rows) (now pool) (now stack) × (length (now c) ≤ 256) × (length (now hints) ≤ 4096) ⌝ }
     ensures { λ r. ⌜ r ≡ paper.check-learn (spelled t (now (rows .entry)) (now (pool .entry)) (now (stack .entry))) id (now (c .entry)) (now (hints .entry)) ⌝ }
 {
-    let sound = new_clause(t, id, c, 3);
+    let sound = checks::new_clause(t, id, c, 3);
     if let Check::Failed(f) = sound {
         return Check::Failed(f);
     }
-    let free = room(pool, t, c.len());
+    let free = checks::room(pool, t, c.len());
     if let Check::Failed(f) = free {
         return Check::Failed(f);
     }
@@ -152,7 +67,7 @@ pub fn judge_learn(
         except: 0,
     };
     let verdict = hints::proves(&rows[..n], pool, scope, c, hints);
-    decided(verdict, 3 + c.len(), 0)
+    checks::decided(verdict, 3 + c.len(), 0)
 }
 
 // FORGET and PROMOTE.
@@ -160,7 +75,7 @@ pub fn judge_learned(rows: &[[u32; 5]], pool: &[i32], stack: &[u32], t: Table, i
     requires { ⌜ Fit t (now rows) (now pool) (now stack) ⌝ }
     ensures { λ r. ⌜ Judges t (now (rows .entry)) 1 id (paper.held-in (spelled t (now (rows .entry)) (now (pool .entry)) (now (stack .entry)) .learned) id) r ⌝ }
 {
-    let Found::At(k) = locate(rows, t, 1, id) else {
+    let Found::At(k) = checks::locate(rows, t, 1, id) else {
         return Judged::Refused(Fault::Id(id));
     };
     Judged::Accepted(k)
@@ -177,7 +92,7 @@ pub fn judge_drop(
     requires { ⌜ Fit t (now rows) (now pool) (now stack) × (length (now hints) ≤ 4096) ⌝ }
     ensures { λ r. ⌜ Judges t (now (rows .entry)) 0 id (paper.check-drop (spelled t (now (rows .entry)) (now (pool .entry)) (now (stack .entry))) id (now (hints .entry))) r ⌝ }
 {
-    let Found::At(k) = locate(rows, t, 0, id) else {
+    let Found::At(k) = checks::locate(rows, t, 0, id) else {
         return Judged::Refused(Fault::Id(id));
     };
     let n = t.count as usize;
@@ -187,7 +102,7 @@ pub fn judge_drop(
     };
     let c = table::clause_of(rows, pool, k);
     let verdict = hints::proves(&rows[..n], pool, scope, c, hints);
-    let check = decided(verdict, 2, 0);
+    let check = checks::decided(verdict, 2, 0);
     if let Check::Failed(f) = check {
         return Judged::Refused(f);
     }
@@ -198,14 +113,14 @@ pub fn judge_restore(rows: &[[u32; 5]], pool: &[i32], stack: &[u32], t: Table, i
     requires { ⌜ Fit t (now rows) (now pool) (now stack) ⌝ }
     ensures { λ r. ⌜ Judges t (now (rows .entry)) 2 id (paper.check-restore (spelled t (now (rows .entry)) (now (pool .entry)) (now (stack .entry))) id) r ⌝ }
 {
-    let Found::At(k) = locate(rows, t, 2, id) else {
+    let Found::At(k) = checks::locate(rows, t, 2, id) else {
         return Judged::Refused(Fault::Id(id));
     };
     let n = t.count as usize;
     let depth = t.depth as usize;
     let above = slices::position(stack, depth, id) + 1;
     let c = table::clause_of(rows, pool, k);
-    let clean = cleanly(&rows[..n], pool, &stack[above..depth], c);
+    let clean = checks::cleanly(&rows[..n], pool, &stack[above..depth], c);
     if let Check::Failed(f) = clean {
         return Judged::Refused(f);
     }

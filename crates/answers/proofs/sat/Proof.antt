@@ -7,7 +7,7 @@ use Rattle.answers.proofs.Mending.{sat-refused, sat-accepted}
 use Rattle.rules.specs.Answers.{check}
 use Rattle.table.specs.Spelled.{spelled}
 use Rattle.table.proofs.Readers.{readable, count-rows}
-use Rattle.judge.proofs.Stack.{stacked, depth-is}
+use Rattle.checks.proofs.Stack.{stacked, depth-is}
 use borrow.Author.Needs.{needs}
 use Rattle.answers.proofs.sat.Statement.{statement}
 use Rattle.answers.proofs.sat.Tie as tie

@@ -5,7 +5,8 @@ use Rattle.rules.specs.declared.Check.the-variants.{Passed}
 use mathlib.Core.Path.{_≡_}
 use Rattle.table.specs.Spelled.{Fit, spelled}
 use Rattle.writes.proofs.Moves.{row-held}
-use Rattle.judge.specs.Judged.{RowOf, Judges}
+use Rattle.checks.specs.Located.{RowOf}
+use Rattle.judge.specs.Judged.{Judges}
 use Rattle.apply.proofs.Passing.{refused, accepted, refusal, at-row, of-id}
 use borrow.Author.Needs.{needs}
 use Rattle.apply.proofs.promote.Statement.{statement}

@@ -4,7 +4,8 @@ use Rattle.rules.specs.Frames.{Frame, RESTORE}
 use Rattle.rules.specs.Answers.{check}
 use Rattle.rules.specs.declared.Check.the-variants.{Passed}
 use Rattle.table.specs.Spelled.{Fit, spelled}
-use Rattle.judge.specs.Judged.{RowOf, Judges}
+use Rattle.checks.specs.Located.{RowOf}
+use Rattle.judge.specs.Judged.{Judges}
 use Rattle.table.proofs.Readers.{row-stacked}
 use Rattle.writes.proofs.Moves.{row-held}
 use Rattle.apply.proofs.Passing.{refused, accepted, refusal, at-row, of-id}

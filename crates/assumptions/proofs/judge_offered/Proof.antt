@@ -5,8 +5,8 @@ use Rattle.rules.specs.Answers.{assumed-true}
 use Rattle.rules.specs.declared.Check.the-variants.{Passed}
 use Rattle.words.specs.Words.{assigned}
 use Rattle.table.proofs.Readers.{readable, count-rows}
-use Rattle.judge.proofs.Order.{goes-on, stops}
-use Rattle.judge.proofs.Stack.{depth-is, stacked}
+use Rattle.checks.proofs.Order.{goes-on, stops}
+use Rattle.checks.proofs.Stack.{depth-is, stacked}
 use Rattle.assumptions.proofs.judge_offered.Statement.{statement}
 use Rattle.assumptions.proofs.judge_offered.Tie as tie
 

@@ -14,7 +14,7 @@ use Rattle.words.specs.Words.{assigned}
 use Rattle.words.proofs.Made.{ascending-offers}
 use Rattle.table.specs.Spelled.{spelled}
 use Rattle.assumptions.specs.Offered.{check-offered, Offers}
-use Rattle.judge.proofs.Order.{goes-on, stops}
+use Rattle.checks.proofs.Order.{goes-on, stops}
 use Rattle.assumptions.proofs.judge_sat.Statement.{statement}
 use Rattle.assumptions.proofs.judge_sat.Tie as tie
 

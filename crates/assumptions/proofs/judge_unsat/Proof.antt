@@ -11,8 +11,8 @@ use Rattle.rules.specs.declared.Check.the-variants.{Passed}
 use Rattle.clause.proofs.Faults.{ranged-in}
 use Rattle.table.proofs.Readers.{readable, count-rows}
 use Rattle.propagation.proofs.Scopes.{allows-all}
-use Rattle.judge.proofs.Order.{goes-on, stops}
-use Rattle.judge.proofs.Verdicts.{stopped-within}
+use Rattle.checks.proofs.Order.{goes-on, stops}
+use Rattle.checks.proofs.Verdicts.{stopped-within}
 use Rattle.assumptions.proofs.judge_unsat.Statement.{statement}
 use Rattle.assumptions.proofs.judge_unsat.Tie as tie
 

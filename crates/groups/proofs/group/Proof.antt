@@ -13,7 +13,7 @@ use Rattle.rules.specs.declared.Check.{Check}
 use Rattle.words.specs.Words.{set-of}
 use Rattle.table.specs.Spelled.{row-at, held}
 use Rattle.propagation.proofs.Scopes.{allows-others}
-use Rattle.judge.proofs.Verdicts.{stopped-within}
+use Rattle.checks.proofs.Verdicts.{stopped-within}
 use Rattle.groups.specs.Groups.{others, hints-of, Headed}
 use Rattle.groups.specs.declared.Onward.the-variants.{Go}
 use Rattle.groups.proofs.Groups.{not-headed, few-hints, unproved, proved}

@@ -21,9 +21,9 @@ use Rattle.clause.proofs.Faults.{flaw-in}
 use Rattle.table.specs.Spelled.{spelled}
 use Rattle.table.specs.declared.Found.{Found}
 use Rattle.table.proofs.Readers.{readable, count-rows, row-inside, free-words-is}
-use Rattle.judge.specs.Judged.{Located-in, RowOf}
-use Rattle.judge.proofs.Located.{below-rows, ranged, has-it, fetches-it}
-use Rattle.judge.proofs.Order.{goes-on, stops, met, unmet}
+use Rattle.checks.specs.Located.{Located-in, RowOf}
+use Rattle.checks.proofs.Located.{below-rows, ranged, has-it, fetches-it}
+use Rattle.checks.proofs.Order.{goes-on, stops, met, unmet}
 use Rattle.groups.proofs.judge_weaken.Statement.{statement}
 use Rattle.groups.proofs.judge_weaken.Tie as tie
 

@@ -8,8 +8,8 @@ use Rattle.rules.specs.declared.Check.the-variants.{Passed}
 use Rattle.rules.proofs.Checks.{then-left}
 use Rattle.clause.proofs.Faults.{flaw-in}
 use Rattle.table.proofs.Readers.{readable, count-rows}
-use Rattle.judge.proofs.Order.{goes-on, stops, in-two}
-use Rattle.judge.proofs.Stack.{depth-is, stacked}
+use Rattle.checks.proofs.Order.{goes-on, stops, in-two}
+use Rattle.checks.proofs.Stack.{depth-is, stacked}
 use Rattle.judge.proofs.judge_add.Statement.{statement}
 use Rattle.judge.proofs.judge_add.Tie as tie
 

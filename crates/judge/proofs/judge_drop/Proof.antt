@@ -11,10 +11,10 @@ use Rattle.table.specs.Spelled.{spelled}
 use Rattle.table.specs.declared.Found.{Found}
 use Rattle.table.proofs.Readers.{readable, count-rows, row-inside}
 use Rattle.propagation.proofs.Scopes.{allows-others}
-use Rattle.judge.specs.Judged.{Located-in, RowOf}
-use Rattle.judge.proofs.Located.{below-rows, ranged, has-it, fetches-it}
-use Rattle.judge.proofs.Order.{goes-on, stops, met, unmet}
-use Rattle.judge.proofs.Verdicts.{stopped-within}
+use Rattle.checks.specs.Located.{Located-in, RowOf}
+use Rattle.checks.proofs.Located.{below-rows, ranged, has-it, fetches-it}
+use Rattle.checks.proofs.Order.{goes-on, stops, met, unmet}
+use Rattle.checks.proofs.Verdicts.{stopped-within}
 use Rattle.judge.proofs.judge_drop.Statement.{statement}
 use Rattle.judge.proofs.judge_drop.Tie as tie
 

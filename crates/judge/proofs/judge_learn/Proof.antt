@@ -16,8 +16,8 @@ use Rattle.clause.proofs.Faults.{flaw-in}
 use Rattle.table.specs.Spelled.{spelled}
 use Rattle.table.proofs.Readers.{readable, count-rows}
 use Rattle.propagation.proofs.Scopes.{allows-all}
-use Rattle.judge.proofs.Order.{goes-on, stops, in-two}
-use Rattle.judge.proofs.Verdicts.{stopped-within}
+use Rattle.checks.proofs.Order.{goes-on, stops, in-two}
+use Rattle.checks.proofs.Verdicts.{stopped-within}
 use Rattle.judge.proofs.judge_learn.Statement.{statement}
 use Rattle.judge.proofs.judge_learn.Tie as tie
 

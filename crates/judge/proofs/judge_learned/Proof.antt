@@ -1,8 +1,8 @@
 use mathlib.Core.Path.{_≡_, subst}
 use borrow.Author.Needs.{needs}
-use Rattle.judge.specs.Judged.{Located-in}
-use Rattle.judge.proofs.Located.{has-it}
-use Rattle.judge.proofs.Order.{met, unmet}
+use Rattle.checks.specs.Located.{Located-in}
+use Rattle.checks.proofs.Located.{has-it}
+use Rattle.checks.proofs.Order.{met, unmet}
 use Rattle.table.specs.declared.Found.{Found}
 use Rattle.judge.proofs.judge_learned.Statement.{statement}
 use Rattle.judge.proofs.judge_learned.Tie as tie

@@ -12,10 +12,10 @@ use Rattle.table.specs.Spelled.{clauses, held-rows, spelled}
 use Rattle.table.specs.declared.Found.{Found}
 use Rattle.table.proofs.Readers.{readable, count-rows, row-inside, row-stacked}
 use Rattle.table.proofs.Stacked.{listed-has, listed-fetch}
-use Rattle.judge.specs.Judged.{Located-in, RowOf}
-use Rattle.judge.proofs.Located.{below-rows, ranged, has-it, fetches-it}
-use Rattle.judge.proofs.Order.{goes-on, stops, met, unmet}
-use Rattle.judge.proofs.Stack.{stacked-behind, above-is}
+use Rattle.checks.specs.Located.{Located-in, RowOf}
+use Rattle.checks.proofs.Located.{below-rows, ranged, has-it, fetches-it}
+use Rattle.checks.proofs.Order.{goes-on, stops, met, unmet}
+use Rattle.checks.proofs.Stack.{stacked-behind, above-is}
 use Rattle.judge.proofs.judge_restore.Statement.{statement}
 use Rattle.judge.proofs.judge_restore.Tie as tie
 

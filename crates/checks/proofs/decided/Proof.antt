@@ -1,8 +1,8 @@
 use Prim.Native.Nat.{_≤_}
 use native.Mathlib.Omega.{arith}
 use borrow.Author.Needs.{needs}
-use Rattle.judge.proofs.decided.Statement.{statement}
-use Rattle.judge.proofs.decided.Tie as tie
+use Rattle.checks.proofs.decided.Statement.{statement}
+use Rattle.checks.proofs.decided.Tie as tie
 
 enum-told : tie.Need-enum-told
 enum-told c = search needs

@@ -3,9 +3,9 @@ use borrow.Author.Needs.{needs}
 use borrow.Author.Tests.{lt-ltb, le-ltb}
 use Rattle.rules.specs.Answers.{flaw, unseen}
 use Rattle.rules.specs.declared.Check.the-variants.{Passed}
-use Rattle.judge.proofs.Order.{goes-on, stops, met, unmet}
-use Rattle.judge.proofs.new_clause.Statement.{statement}
-use Rattle.judge.proofs.new_clause.Tie as tie
+use Rattle.checks.proofs.Order.{goes-on, stops, met, unmet}
+use Rattle.checks.proofs.new_clause.Statement.{statement}
+use Rattle.checks.proofs.new_clause.Tie as tie
 
 -- past 3
 unflawed : (x : tie.After-enum-told) → let a = x .before .before .before .before .args in flaw (a .t .vars) unseen (a .at) (a .c .now) ≡ Passed

@@ -11,9 +11,9 @@ use Rattle.rules.specs.declared.Fault.the-variants.{NoEntry}
 use Rattle.table.specs.Spelled.{Row, Fit, spelled}
 use Rattle.table.specs.declared.Table.{Table}
 use Rattle.table.proofs.Readers.{gone-most, free-entry-is, free-words-is}
-use Rattle.judge.proofs.Order.{goes-on, stops, met, unmet}
-use Rattle.judge.proofs.room.Statement.{statement}
-use Rattle.judge.proofs.room.Tie as tie
+use Rattle.checks.proofs.Order.{goes-on, stops, met, unmet}
+use Rattle.checks.proofs.room.Statement.{statement}
+use Rattle.checks.proofs.room.Tie as tie
 
 -- 12: the rows in use, less those whose clause is gone, are the clauses held
 module _ {t : Table} {rows : List Row} {pool : List ℤ} {stack : List ℕ} (f : Fit t rows pool stack) where

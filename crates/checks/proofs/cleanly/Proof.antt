@@ -1,6 +1,6 @@
 use borrow.Author.Needs.{needs}
-use Rattle.judge.proofs.cleanly.Statement.{statement}
-use Rattle.judge.proofs.cleanly.Tie as tie
+use Rattle.checks.proofs.cleanly.Statement.{statement}
+use Rattle.checks.proofs.cleanly.Tie as tie
 
 mark-requires : tie.Need-mark-requires
 mark-requires c κs = search needs

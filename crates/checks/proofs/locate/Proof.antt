@@ -5,9 +5,9 @@ use borrow.Author.Needs.{needs}
 use Rattle.table.specs.Spelled.{Located, held-rows}
 use Rattle.table.specs.declared.Found.the-variants.{At}
 use Rattle.table.proofs.Finding.{nowhere}
-use Rattle.judge.proofs.Located.{count-rows, below-count, here, elsewhere}
-use Rattle.judge.proofs.locate.Statement.{statement}
-use Rattle.judge.proofs.locate.Tie as tie
+use Rattle.checks.proofs.Located.{count-rows, below-count, here, elsewhere}
+use Rattle.checks.proofs.locate.Statement.{statement}
+use Rattle.checks.proofs.locate.Tie as tie
 
 -- the row of the id
 module _ (x : tie.After-known-told) where

@@ -15,7 +15,7 @@ use Rattle.table.specs.declared.Table.{Table}
 use Rattle.table.specs.declared.Found.the-variants.{At}
 use Rattle.table.proofs.Finding as finding
 use Rattle.table.proofs.Readers.{readable, has-at, fetch-at}
-use Rattle.judge.specs.Judged.{RowOf}
+use Rattle.checks.specs.Located.{RowOf}
 
 module _ (t : Table) (rows : List Row) (inside : t .count ≤ length rows) where
   -- the rows held are as many as the count says, and they are the first of the rows

@@ -1,0 +1,2 @@
+-- The row of the clause that a frame names.
+pub mod Located

@@ -1,4 +1,0 @@
-pub mod Located
-pub mod Order
-pub mod Stack
-pub mod Verdicts
