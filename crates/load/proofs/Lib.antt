@@ -1,4 +1,3 @@
--- The laws of loading: what is asked of one row (Rights), of all (States), and the rows as they were lent (Held).
-pub mod Rights
+-- The laws of loading: what is asked of all rows (States), and the rows as they were lent (Held).
 pub mod States
 pub mod Held

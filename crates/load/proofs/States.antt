@@ -11,7 +11,6 @@ use borrow.Author.Tests.{le-ltb, lt-leb, le-leb, leb-true, eqb-true, ne-eqb}
 use Rattle.rules.specs.Lists.{all, only}
 use Rattle.rules.proofs.Lists.{by-cases, true-false, and-left, and-right, and-both, all-at, all-of}
 use Rattle.table.specs.Facts.{All, total}
-use Rattle.table.specs.Spelled as working
 use Rattle.table.specs.Spelled.{Row, place-of, start-of, size, held, stands, clauses, Rising, Inside, Lawful, Fit}
 use Rattle.table.specs.declared.Table.{Table}
 use Rattle.lent.specs.State.{every-two, other-id, known, lawful, inside, clear, lists, is-state}
@@ -22,7 +21,7 @@ use Rattle.lent.proofs.Listing.{stack-fact}
 use Rattle.lent.proofs.Stored.{stored-is-state, stored-spells}
 use Rattle.order.specs.Orders.{is-tidy}
 use Rattle.order.proofs.Alike.{held-all}
-use Rattle.load.specs.Rights.{ends, right}
+use Rattle.lawful.specs.Rights.{ends, right}
 use Rattle.load.specs.Loads.{Loads}
 use Rattle.load.specs.declared.Loaded.the-variants.{Working}
 

@@ -1,3 +1,2 @@
--- What loading promises: Loads. Rights has what is asked of one row.
-pub mod Rights
+-- What loading promises: Loads.
 pub mod Loads

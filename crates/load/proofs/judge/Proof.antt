@@ -15,7 +15,7 @@ use Rattle.table.proofs.Facts.{all-more}
 use Rattle.lent.specs.State.{lists}
 use Rattle.lent.proofs.Tests.{all-test}
 use Rattle.lent.proofs.Judged.{inside-test}
-use Rattle.load.specs.Rights.{right}
+use Rattle.lawful.specs.Rights.{right}
 use Rattle.load.proofs.States.{no-vars, vars-past, highest-past, row-wrong, words-differ, some-overlap, not-listed, rights-inside, loads}
 use Rattle.load.proofs.judge.Statement.{statement}
 use Rattle.load.proofs.judge.Tie as tie

@@ -1,11 +1,11 @@
--- `load::is_right` meets its contract: the tests in the code's order.
+-- `lawful::is_right` meets its contract: the tests in the code's order.
 use mathlib.Core.Path.{sym, _∙_}
 use native.Mathlib.Omega.{arith}
 use Rattle.table.specs.Spelled.{Row, row-at}
-use Rattle.load.proofs.Rights.{right-zero, right-above, right-past, right-rest}
+use Rattle.lawful.proofs.Rights.{right-zero, right-above, right-past, right-rest}
 use borrow.Author.Needs.{needs}
-use Rattle.load.proofs.is_right.Statement.{statement}
-use Rattle.load.proofs.is_right.Tie as tie
+use Rattle.lawful.proofs.is_right.Statement.{statement}
+use Rattle.lawful.proofs.is_right.Tie as tie
 
 abbrev row : tie.Start → Row
 row s = row-at (s .args .rows .now) (s .args .k)

@@ -1,4 +1,4 @@
--- `load::end_of` meets its contract. The loop's invariant: those before k end by top, and top is no later than it must be.
+-- `lawful::end_of` meets its contract. The loop's invariant: those before k end by top, and top is no later than it must be.
 use mathlib.Core.Logic.{⊎-elim}
 use mathlib.Core.List.{[]}
 use Prim.Native.Nat.{ℕ, _-_, _<_, _≤_}
@@ -8,8 +8,8 @@ use Rattle.table.specs.Facts.{All}
 use Rattle.table.specs.Spelled.{row-at, Inside}
 use Rattle.table.proofs.Facts.{all-index, all-indexed, below-next}
 use borrow.Author.Needs.{needs}
-use Rattle.load.proofs.end_of.Statement.{statement}
-use Rattle.load.proofs.end_of.Tie as tie
+use Rattle.lawful.proofs.end_of.Statement.{statement}
+use Rattle.lawful.proofs.end_of.Tie as tie
 
 abbrev Inv-loop : tie.InvT-loop
 Inv-loop rows top₀ k₀ top k = ((j : ℕ) → j < k → Inside top (row-at rows j)) × ((t : ℕ) → All (Inside t) rows → top ≤ t) × (k ≤ length rows)

@@ -1,4 +1,4 @@
--- `load::are_right` meets its contract. The loop's invariant: those before k are right.
+-- `lawful::are_right` meets its contract. The loop's invariant: those before k are right.
 use mathlib.Core.Path.{_≡_, refl, sym, _∙_, ap}
 use mathlib.Core.Bool.{Bool, _&&_}
 use mathlib.Core.List.{[]}
@@ -8,11 +8,11 @@ use lib.ListN.{length, drop}
 use Rattle.rules.specs.Lists.{all}
 use Rattle.rules.proofs.Lists.{all-on, all-past}
 use Rattle.table.specs.Spelled.{Row}
-use Rattle.load.specs.Rights.{right}
+use Rattle.lawful.specs.Rights.{right}
 use borrow.Author.Needs.{needs}
 use borrow.Author.Tests.{not-true, not-false}
-use Rattle.load.proofs.are_right.Statement.{statement}
-use Rattle.load.proofs.are_right.Tie as tie
+use Rattle.lawful.proofs.are_right.Statement.{statement}
+use Rattle.lawful.proofs.are_right.Tie as tie
 
 abbrev Inv-loop : tie.InvT-loop
 Inv-loop rows pool vars highest k₀ k = (all (right vars highest pool) rows ≡ all (right vars highest pool) (drop k rows)) × (k ≤ length rows)

@@ -1,4 +1,4 @@
--- `load::words_of` meets its contract. The loop's invariant: the sum of those before k, which are at most 8,192 each.
+-- `lawful::words_of` meets its contract. The loop's invariant: the sum of those before k, which are at most 8,192 each.
 use mathlib.Core.Path.{_≡_}
 use mathlib.Core.List.{List, []}
 use Prim.Native.Nat.{_+_, _*_, _-_, _≤_}
@@ -8,8 +8,8 @@ use Rattle.table.specs.Facts.{total}
 use Rattle.table.specs.Spelled.{Row, row-at, size}
 use Rattle.table.proofs.Facts.{all-index, total-on, total-past}
 use borrow.Author.Needs.{needs}
-use Rattle.load.proofs.words_of.Statement.{statement}
-use Rattle.load.proofs.words_of.Tie as tie
+use Rattle.lawful.proofs.words_of.Statement.{statement}
+use Rattle.lawful.proofs.words_of.Tie as tie
 
 abbrev Inv-loop : tie.InvT-loop
 Inv-loop rows sum₀ k₀ sum k = (total size rows ≡ sum + total size (drop k rows)) × (sum ≤ k * 8192) × (k ≤ length rows)

@@ -1,11 +1,11 @@
--- `load::is_clause` meets its contract.
+-- `lawful::is_clause` meets its contract.
 use mathlib.Core.Path.{sym, _∙_}
 use native.Mathlib.Omega.{arith}
 use Rattle.rules.proofs.Checks.{flaw-clause}
-use Rattle.load.proofs.Rights.{clause-long, clause-flawed}
+use Rattle.lawful.proofs.Rights.{clause-long, clause-flawed}
 use borrow.Author.Needs.{needs}
-use Rattle.load.proofs.is_clause.Statement.{statement}
-use Rattle.load.proofs.is_clause.Tie as tie
+use Rattle.lawful.proofs.is_clause.Statement.{statement}
+use Rattle.lawful.proofs.is_clause.Tie as tie
 
 returns : tie.Need-returns
 returns c = let a = c .before .args in sym (clause-long (a .vars) (a .c .now) (c .if1 .taken))

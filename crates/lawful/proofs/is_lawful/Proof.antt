@@ -1,4 +1,4 @@
--- `load::is_lawful` meets its contract: the tests in the code's order.
+-- `lawful::is_lawful` meets its contract: the tests in the code's order.
 use mathlib.Core.Path.{_≡_, sym, _∙_, ap}
 use mathlib.Core.Bool.{true}
 use mathlib.Core.List.{List}
@@ -10,9 +10,9 @@ use borrow.Author.Needs.{needs}
 use borrow.Author.Tests.{not-true, not-false}
 use Rattle.rules.specs.Terms.{Held, is-clause, is-witness}
 use Rattle.table.specs.Spelled.{Row, row-at, place-of, held}
-use Rattle.load.proofs.Rights.{lawful-no-clause, lawful-plain, lawful-record, lawful-nowhere}
-use Rattle.load.proofs.is_lawful.Statement.{statement}
-use Rattle.load.proofs.is_lawful.Tie as tie
+use Rattle.lawful.proofs.Rights.{lawful-no-clause, lawful-plain, lawful-record, lawful-nowhere}
+use Rattle.lawful.proofs.is_lawful.Statement.{statement}
+use Rattle.lawful.proofs.is_lawful.Tie as tie
 
 module _ (s : tie.Start) where
   abbrev row : Row

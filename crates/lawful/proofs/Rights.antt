@@ -17,7 +17,7 @@ use Rattle.rules.proofs.Checks.{clause-passes}
 use Rattle.rules.proofs.Lists.{by-cases}
 use Rattle.table.specs.Spelled.{Row, id-of, place-of, start-of, size, held}
 use Rattle.lent.specs.State.{known, lawful}
-use Rattle.load.specs.Rights.{right}
+use Rattle.lawful.specs.Rights.{right}
 
 -- ---- a clause
 

@@ -1,13 +1,13 @@
--- `load::is_witness` meets its contract.
+-- `lawful::is_witness` meets its contract.
 use mathlib.Core.Path.{sym, _∙_, ap}
 use Rattle.rules.specs.Lists.{any}
 use Rattle.rules.specs.Terms.{is-clause}
 use Rattle.table.proofs.Readers.{clause-ranged}
 use borrow.Author.Tests.{not-true, not-false}
-use Rattle.load.proofs.Rights.{witness-no-clause, witness-shares}
+use Rattle.lawful.proofs.Rights.{witness-no-clause, witness-shares}
 use borrow.Author.Needs.{needs}
-use Rattle.load.proofs.is_witness.Statement.{statement}
-use Rattle.load.proofs.is_witness.Tie as tie
+use Rattle.lawful.proofs.is_witness.Statement.{statement}
+use Rattle.lawful.proofs.is_witness.Tie as tie
 
 is-clause-requires : tie.Need-is-clause-requires
 is-clause-requires c κs = search needs

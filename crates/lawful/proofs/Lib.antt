@@ -1,0 +1,2 @@
+-- The laws of what is asked of one row: Rights.
+pub mod Rights

@@ -1,0 +1,2 @@
+-- What is asked of one row, by itself: Rights.
+pub mod Rights
