@@ -99,7 +99,7 @@ pub fn weaken(
     requires { ⌜ Fit t (now rows) (now pool) (now stack) × (length (now w) ≤ 256) × (3 + length (now w) + length (now ws) ≤ 4096) ⌝ }
     ensures { λ r. ⌜ Applied t (now (rows .entry)) (now (pool .entry)) (now (stack .entry)) (WEAKEN id (now (w .entry)) (now (ws .entry))) r (now (rows .exit)) (now (pool .exit)) (now (stack .exit)) ⌝ }
 {
-    let judged = groups::judge_weaken(rows, pool, stack, t, id, w, ws);
+    let judged = weakening::judge_weaken(rows, pool, stack, t, id, w, ws);
     match judged {
         Judged::Refused(fault) => stepped::refused(fault, t),
         Judged::Accepted(k) => stepped::accepted(writes::weaken(rows, pool, stack, t, k, w)),

@@ -1,4 +1,4 @@
-// WEAKEN's judgment. Each other irredundant clause that the witness may break needs a group of hints. Everything is lent by &, so that a refusal cannot write.
+// WEAKEN's groups of hints: each other irredundant clause that the witness may break needs one. Everything is lent by &, so that a refusal cannot write.
 ghost use mathlib.Core.Path.{_≡_};
 ghost use mathlib.Core.Bool.{true};
 ghost use Prim.Native.Nat.{_+_, _≤_, _<_};
@@ -9,15 +9,11 @@ ghost use Rattle.rules.specs.Propagation.{among};
 ghost use Rattle.rules.specs.Frames.{needs-group};
 ghost use Rattle.rules.specs.Answers as paper;
 ghost use Rattle.words.specs.Words.{set-of};
-ghost use Rattle.table.specs.Spelled.{Fit, Readable, held, row-at, spelled};
-ghost use Rattle.judge.specs.Judged.{Judges};
+ghost use Rattle.table.specs.Spelled.{Readable, held, row-at};
 ghost use Rattle.groups.specs.Groups.{Grouped, Headed, is-due, others};
-use judge::Judged;
 use propagation::Scope;
 use rules::Check;
 use rules::Fault;
-use table::Found;
-use table::Table;
 
 // The row is that of another irredundant clause than that of the id, and it holds the opposite of a literal of the witness and no literal of it.
 fn needs_group(
@@ -115,7 +111,7 @@ fn group(
 }
 
 // The groups, by rising id, then 9 for words left over.
-fn all_groups(
+pub fn all_groups(
     rows: &[[u32; 5]],
     pool: &[i32],
     id: u32,
@@ -148,43 +144,4 @@ fn all_groups(
         return Check::Failed(Fault::Group(from + at));
     }
     Check::Passed
-}
-
-pub fn judge_weaken(
-    rows: &[[u32; 5]],
-    pool: &[i32],
-    stack: &[u32],
-    t: Table,
-    id: u32,
-    w: &[i32],
-    ws: &[i32],
-) -> Judged
-    requires { ⌜ Fit t (now rows) (now pool) (now stack) × (length (now w) ≤ 256) × (3 + length (now w) + length (now ws) ≤ 4096) ⌝ }
-    ensures { λ r. ⌜ Judges t (now (rows .entry)) 0 id (paper.check-weaken (spelled t (now (rows .entry)) (now (pool .entry)) (now (stack .entry))) id (now (w .entry)) (now (ws .entry))) r ⌝ }
-{
-    let flaw = clause::flaw(t.vars as usize, w, 3);
-    if let Check::Failed(f) = flaw {
-        return Judged::Refused(f);
-    }
-    let Found::At(k) = checks::locate(rows, t, 0, id) else {
-        return Judged::Refused(Fault::Id(id));
-    };
-    let c = table::clause_of(rows, pool, k);
-    let marks = clause::mark(w);
-    let wplus = marks.plus;
-    let wminus = marks.minus;
-    let shared = clause::shares(c, &wplus, &wminus);
-    let words = t.words as usize + w.len();
-    if !shared {
-        return Judged::Refused(Fault::NoWitness);
-    }
-    if pool.len() < words {
-        return Judged::Refused(Fault::NoWords);
-    }
-    let n = t.count as usize;
-    let check = all_groups(&rows[..n], pool, id, c, &wplus, &wminus, ws, 3 + w.len());
-    if let Check::Failed(f) = check {
-        return Judged::Refused(f);
-    }
-    Judged::Accepted(k)
 }

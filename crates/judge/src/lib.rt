@@ -1,4 +1,4 @@
-// What each operation that writes the tables asks of them, in document 01's order; WEAKEN's judgment is in `groups`. Everything is lent by &, so that a refusal cannot write.
+// What each operation that writes the tables asks of them, in document 01's order; WEAKEN's judgment is in `weakening`. Everything is lent by &, so that a refusal cannot write.
 ghost use mathlib.Core.Path.{_≡_};
 ghost use Prim.Native.Nat.{_≤_};
 ghost use lib.ListN.{length};

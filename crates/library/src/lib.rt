@@ -29,8 +29,8 @@ fn numbers_of(answer: Answer) -> Numbers
     ensures { λ r. ⌜ Numbered answer r ⌝ }
 {
     Numbers {
-        code: wide(rules::code(answer)),
-        detail: word(rules::detail(answer)),
+        code: wide(codes::code(answer)),
+        detail: word(codes::detail(answer)),
     }
 }
 

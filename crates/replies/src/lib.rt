@@ -71,8 +71,8 @@ fn put_numbers(out: &mut [u8], at: usize, answer: Answer) -> usize
     requires { ⌜ at + 16 ≤ length (now out) ⌝ }
     ensures { λ r. ⌜ Wrote (now (out .entry)) at (numbered answer) (now (out .exit)) r ⌝ }
 {
-    let a = put_number(out, at, rules::code(answer) as usize);
-    put_number(out, a, rules::detail(answer))
+    let a = put_number(out, at, codes::code(answer) as usize);
+    put_number(out, a, codes::detail(answer))
 }
 
 // The line of an answer.

@@ -24,8 +24,8 @@ use Rattle.table.proofs.Readers.{readable, count-rows, row-inside, free-words-i
 use Rattle.checks.specs.Located.{Located-in, RowOf}
 use Rattle.checks.proofs.Located.{below-rows, ranged, has-it, fetches-it}
 use Rattle.checks.proofs.Order.{goes-on, stops, met, unmet}
-use Rattle.groups.proofs.judge_weaken.Statement.{statement}
-use Rattle.groups.proofs.judge_weaken.Tie as tie
+use Rattle.weakening.proofs.judge_weaken.Statement.{statement}
+use Rattle.weakening.proofs.judge_weaken.Tie as tie
 
 -- past 3
 module _ (x : tie.After-enum-told) where
