@@ -1,17 +1,16 @@
--- Opening: its two checks, and that what it carries spells the empty state.
+-- What an opening carries spells the empty state.
 use mathlib.Core.Path.{_≡_, refl, ap, _∙_}
-use mathlib.Core.Bool.{true, false, _&&_}
+use mathlib.Core.Bool.{true, _&&_}
 use mathlib.Core.List.{List, map}
 use mathlib.Core.Option.{some}
-use Prim.Native.Nat.{ℕ, _≤_, _<_}
+use Prim.Native.Nat.{ℕ, _≤_}
 use native.Mathlib.Omega.{arith}
 use lib.Dec.{ltb, leb}
 use lib.IntN.{ℤ}
 use lib.ListN.{length, length-map, replicate, length-replicate}
-use borrow.Author.Tests.{lt-ltb, le-leb, lt-leb, ltb-true, leb-true}
-use Rattle.rules.specs.Answers.{_then_, need, lent, check-open, opened}
-use Rattle.rules.specs.declared.Check.the-variants.{Passed, Failed}
-use Rattle.rules.specs.declared.Fault.the-variants.{NoState, Literal}
+use borrow.Author.Tests.{ltb-true, leb-true}
+use Rattle.rules.specs.Answers.{lent, check-open, opened}
+use Rattle.rules.specs.declared.Check.the-variants.{Passed}
 use Rattle.rules.proofs.Checks.{then-left, then-right, need-true}
 use Rattle.rules.proofs.Lists.{and-left, and-right}
 use Rattle.table.specs.Spelled.{Fit}
@@ -20,27 +19,9 @@ use Rattle.entries.specs.Lent.{row-of}
 use Rattle.entries.specs.declared.Entry.{Entry}
 use Rattle.lent.proofs.Sizes.{lent-most}
 use Rattle.lent.proofs.Stored.{stored-is-state, stored-spells}
-use Rattle.checker.specs.Calls.{state-lent, empty, opened-with, Opening}
-use Rattle.checker.specs.declared.Called.{Called}
-
-module _ (vars entries words : ℕ) where
-  pub unlent : lent entries words ≡ false → check-open vars entries words ≡ Failed NoState
-  unfolding check-open _then_ need
-  unlent f = rw f
-
-  pub no-vars : lent entries words ≡ true → vars ≡ 0 → check-open vars entries words ≡ Failed (Literal 0)
-  unfolding check-open _then_ need
-  no-vars t z = rw (t, z)
-
-  pub many-vars : lent entries words ≡ true → 2048 < vars → check-open vars entries words ≡ Failed (Literal 0)
-  unfolding check-open _then_ need
-  many-vars t h = let a = lt-ltb 0 vars (omega arith) in let b = lt-leb vars 2048 h in rw (t, a, b)
-
-  pub opens : lent entries words ≡ true → 0 < vars → vars ≤ 2048 → check-open vars entries words ≡ Passed
-  unfolding check-open _then_ need
-  opens t h k = let a = lt-ltb 0 vars h in let b = le-leb vars 2048 k in rw (t, a, b)
-
--- ---- the empty state
+use Rattle.lent.specs.declared.Called.{Called}
+use Rattle.opening.specs.Opened.{empty, opened-with}
+use Rattle.checker.specs.Calls.{state-lent, Opening}
 
 module _ (vars : ℕ) (entries : List Entry) (pool : List ℤ) (k : check-open vars (length entries) (length pool) ≡ Passed) where
   fits : lent (length entries) (length pool) ≡ true

@@ -23,9 +23,10 @@ use Rattle.stepped.specs.Told.{unless-refused}
 use Rattle.stepped.specs.declared.Written.{Written}
 use Rattle.stepped.specs.declared.Written.the-variants.{Tables}
 use Rattle.steps.specs.Steps.{writes}
-use Rattle.checker.specs.Calls.{opened-with, state-lent, said, answer-to, Opening, Stepping}
+use Rattle.opening.specs.Opened.{opened-with}
+use Rattle.checker.specs.Calls.{state-lent, said, answer-to, Opening, Stepping}
 use Rattle.checker.specs.Chains.{Chain, open-first, then-step}
-use Rattle.checker.specs.declared.Called.{Called}
+use Rattle.lent.specs.declared.Called.{Called}
 
 -- the history that a chain comes to
 pub record History-of (entries : List Entry) (pool : List ℤ) (c : Carried) (added : List (List ℤ)) : Type 0 where

@@ -30,7 +30,7 @@ use Rattle.stepped.specs.declared.Written.the-variants.{Tables}
 use Rattle.steps.specs.Steps.{writes}
 use Rattle.checker.specs.Calls.{state-lent, said, answer-to, handed-by, Stepping}
 use Rattle.checker.specs.Chains.{Chain}
-use Rattle.checker.specs.declared.Called.{Called}
+use Rattle.lent.specs.declared.Called.{Called}
 use Rattle.checker.proofs.Reaching.{History-of, reached-by-calls, said-paper, said-none}
 
 some-one : {A : Type 0} {x y : A} → _≡_ {A = Option A} (some x) (some y) → x ≡ y

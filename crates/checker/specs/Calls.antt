@@ -6,15 +6,13 @@ use mathlib.Core.Option.{Option, none, some}
 use Prim.Native.Nat.{ℕ}
 use lib.Dec.{eqb}
 use lib.IntN.{ℤ}
-use lib.ListN.{length, replicate}
+use lib.ListN.{length}
 use Rattle.rules.specs.Terms.{State}
 use Rattle.rules.specs.Frames.{parse}
 use Rattle.rules.specs.Answers.{Handed, untouched, Outcome, outcome, lent, check-open, opened}
 use Rattle.rules.specs.declared.Answer.{Answer}
-use Rattle.rules.specs.declared.Answer.the-variants.{Accepted, Refused}
-use Rattle.rules.specs.declared.Check.{Check}
-use Rattle.rules.specs.declared.Check.the-variants.{Passed, Failed}
-use Rattle.rules.specs.declared.Fault.{Fault}
+use Rattle.rules.specs.declared.Answer.the-variants.{Refused}
+use Rattle.rules.specs.declared.Check.the-variants.{Passed}
 use Rattle.rules.specs.declared.Fault.the-variants.{NoState}
 use Rattle.stepped.specs.Told.{unless-refused}
 use Rattle.answers.specs.Answered.{Wrote}
@@ -24,24 +22,14 @@ use Rattle.entries.specs.Lent.{row-of}
 use Rattle.entries.specs.declared.Entry.{Entry}
 use Rattle.lent.specs.State.{spelled}
 use Rattle.lent.specs.declared.Carried.{Carried}
-use Rattle.checker.specs.declared.Called.{Called}
+use Rattle.lent.specs.declared.Called.{Called}
+use Rattle.opening.specs.Opened.{opened-with}
 
 -- the state that what is lent and carried spells, where it is one and the lent sizes are in range
 abbrev pub state-lent : List Entry → List ℤ → Carried → Option State
 state-lent entries pool c = cond (lent (length entries) (length pool)) (spelled c (map row-of entries) pool) none
 
 -- ---- open
-
--- the carried value of an empty state; with V = 0, that of no state
-abbrev pub empty : ℕ → Carried
-empty vars = record { vars = vars; highest = 0; count = 0; words = 0; depth = 0; stack = replicate 1024 0 }
-
-abbrev pub unopened-with : Fault → Called
-unopened-with e = record { answer = Refused e; carried = empty 0 }
-
-abbrev pub opened-with : ℕ → Check → Called
-opened-with vars Passed = record { answer = Accepted 0; carried = empty vars }
-opened-with vars (Failed e) = unopened-with e
 
 -- "Opening .. gives 1 for lent sizes only and then 3, both writing nothing; else 0, detail 0, and an empty state with highest id 0, whatever the tables held"
 pub record Opening (vars : ℕ) (entries : List Entry) (pool : List ℤ) (r : Called) : Type 0 where

@@ -9,7 +9,7 @@ use Rattle.rules.specs.declared.Answer.the-variants.{Accepted}
 use Rattle.entries.specs.declared.Entry.{Entry}
 use Rattle.lent.specs.declared.Carried.{Carried}
 use Rattle.checker.specs.Calls.{Opening, Stepping}
-use Rattle.checker.specs.declared.Called.{Called}
+use Rattle.lent.specs.declared.Called.{Called}
 
 -- what is lent and carried after a chain of calls, and the clauses that were ever added in it. Every outcome that the promises allow may be a link.
 pub data Chain : List Entry → List ℤ → Carried → List (List ℤ) → Type 0 where

@@ -1,14 +1,11 @@
 // The public calls over the lent tables. Any bits may be handed in.
 ghost use mathlib.Core.Path.{_≡_};
-ghost use mathlib.Core.Bool.{_&&_};
 ghost use Prim.Native.Nat.{_≤_};
-ghost use lib.Dec.{eqb};
 ghost use lib.ListN.{length};
-ghost use Rattle.rules.specs.Answers.{check-open, lent};
-ghost use Rattle.checker.specs.Calls.{Opening, Stepping, opened-with, unopened-with};
-ghost use Rattle.checker.specs.Calls.{empty as empty-carried};
+ghost use Rattle.checker.specs.Calls.{Opening, Stepping};
 ghost use Rattle.checker.specs.Running.{RunLent, Running, left-with, stored-with};
 use entries::Entry;
+use lent::Called;
 use lent::Carried;
 use load::Loaded;
 use rules::Answer;
@@ -16,13 +13,7 @@ use rules::Fault;
 use stepped::Written;
 use table::Table;
 
-// The answer, and what is carried after it.
-pub struct Called {
-    pub answer: Answer,
-    pub carried: Carried,
-}
-
-// The same, and how many rows are to be put back.
+// What a call comes to, and how many rows are to be put back.
 struct Ran {
     pub called: Called,
     pub count: usize,
@@ -56,18 +47,6 @@ fn stored(answer: Answer, t: Table, stack: [u32; 1024]) -> Ran
     }
 }
 
-// The words, over all of the model buffer.
-fn write_model(model: &mut [u64], words: [u64; 32])
-    requires { ⌜ length (now model) ≡ 32 ⌝ }
-    ensures { λ _. ⌜ now (model .exit) ≡ words ⌝ }
-{
-    let mut i = 0;
-    while i < 32 {
-        model[i] = words[i];
-        i += 1;
-    }
-}
-
 // A frame on the rows of what is lent.
 fn run(rows: &mut [[u32; 5]], pool: &mut [i32], c: Carried, frame: &[i32], model: &mut [u64]) -> Ran
     requires { ⌜ (length (now rows) ≤ 1024) × (length (now pool) ≤ 8192) × (length (now model) ≡ 32) ⌝ }
@@ -89,20 +68,10 @@ fn run(rows: &mut [[u32; 5]], pool: &mut [i32], c: Carried, frame: &[i32], model
             stored(answer, whole, stack)
         }
         Written::Model => {
-            write_model(model, words);
+            slices::write_words(model, words);
             left(answer, c)
         }
     }
-}
-
-// Sizes of entries, words and model buffer that are in range.
-fn in_sizes(entries: usize, words: usize, buffer: usize) -> bool
-    ensures { λ r. ⌜ r ≡ (lent entries words && eqb buffer 32) ⌝ }
-{
-    if lent::in_sizes(entries, words) {
-        return buffer == 32;
-    }
-    false
 }
 
 // A frame on the rows of a table of n entries. Code 1 where the lent sizes or that of the model buffer are out of range.
@@ -117,7 +86,7 @@ fn run_lent(
     requires { ⌜ length (now rows) ≡ 1024 ⌝ }
     ensures { λ r. ⌜ RunLent n (now (rows .entry)) (now (pool .entry)) c (now (frame .entry)) (now (model .entry)) r (now (rows .exit)) (now (pool .exit)) (now (model .exit)) ⌝ }
 {
-    if in_sizes(n, pool.len(), model.len()) {
+    if lent::in_sizes_with_model(n, pool.len(), model.len()) {
         return run(&mut rows[..n], pool, c, frame, model);
     }
     left(Answer::Refused(Fault::NoState), c)
@@ -139,51 +108,9 @@ pub fn step(
     r.called
 }
 
-// What is carried of an empty state.
-fn empty(vars: u32) -> Carried
-    ensures { λ r. ⌜ r ≡ empty-carried vars ⌝ }
-{
-    Carried {
-        vars,
-        highest: 0,
-        count: 0,
-        words: 0,
-        depth: 0,
-        stack: [0u32; 1024],
-    }
-}
-
-fn unopened(fault: Fault) -> Called
-    ensures { λ r. ⌜ r ≡ unopened-with fault ⌝ }
-{
-    Called {
-        answer: Answer::Refused(fault),
-        carried: empty(0),
-    }
-}
-
-// Opening, by the lent sizes: 1, then 3. It neither reads nor writes the tables, "whatever the tables held".
-pub fn open_sized(vars: u32, entries: usize, words: usize) -> Called
-    ensures { λ r. ⌜ r ≡ opened-with vars (check-open vars entries words) ⌝ }
-{
-    if lent::in_sizes(entries, words) {
-        if vars == 0 {
-            return unopened(Fault::Literal(0));
-        }
-        if 2048 < vars {
-            return unopened(Fault::Literal(0));
-        }
-        return Called {
-            answer: Answer::Accepted(0),
-            carried: empty(vars),
-        };
-    }
-    unopened(Fault::NoState)
-}
-
 // Opens the lent tables: it looks at nothing but their sizes, and writes nothing.
 pub fn open(vars: u32, entries: &[Entry], pool: &[i32]) -> Called
     ensures { λ r. ⌜ Opening vars (now (entries .entry)) (now (pool .entry)) r ⌝ }
 {
-    open_sized(vars, entries.len(), pool.len())
+    opening::open_sized(vars, entries.len(), pool.len())
 }

@@ -1,8 +1,9 @@
 // What is lent and carried: that no two parts of the pool overlap, and that the stack lists each stacked clause once.
 ghost use mathlib.Core.Path.{_≡_};
-ghost use mathlib.Core.Bool.{true};
+ghost use mathlib.Core.Bool.{true, _&&_};
 ghost use mathlib.Core.List.{List};
 ghost use Prim.Native.Nat.{_<_, _≤_};
+ghost use lib.Dec.{eqb};
 ghost use lib.IntN.{ℤ};
 ghost use lib.ListN.{length};
 ghost use Rattle.rules.specs.Answers.{lent};
@@ -10,6 +11,7 @@ ghost use Rattle.rules.specs.Lists.{all, only};
 ghost use Rattle.table.specs.Spelled.{Rising, clauses, stands};
 ghost use Rattle.lent.specs.Marks.{Takes};
 ghost use Rattle.lent.specs.State.{clear, every-two, inside, lists};
+use rules::Answer;
 use table::Found;
 
 // What goes beside the lent tables: V, the highest id accepted, how many entries are held, how many words they hold, how many ids are on the stack,
@@ -22,6 +24,12 @@ pub struct Carried {
     pub words: u32,
     pub depth: u32,
     pub stack: [u32; 1024],
+}
+
+// The answer, and what is carried after it.
+pub struct Called {
+    pub answer: Answer,
+    pub carried: Carried,
 }
 
 // Lent sizes, of entries and of words, that are in range.
@@ -38,6 +46,16 @@ pub fn in_sizes(entries: usize, words: usize) -> bool
         return false;
     }
     words <= 8192
+}
+
+// The same beside the size of a model buffer.
+pub fn in_sizes_with_model(entries: usize, words: usize, buffer: usize) -> bool
+    ensures { λ r. ⌜ r ≡ (lent entries words && eqb buffer 32) ⌝ }
+{
+    if in_sizes(entries, words) {
+        return buffer == 32;
+    }
+    false
 }
 
 // ---- the parts of the pool

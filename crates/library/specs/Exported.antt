@@ -9,7 +9,7 @@ use Rattle.rules.specs.declared.Answer.the-variants.{Accepted, Refused}
 use Rattle.entries.specs.declared.Entry.{Entry}
 use Rattle.lent.specs.declared.Carried.{Carried}
 use Rattle.checker.specs.Calls.{Opening, Stepping}
-use Rattle.checker.specs.declared.Called.{Called}
+use Rattle.lent.specs.declared.Called.{Called}
 use Rattle.library.specs.declared.Numbers.{Numbers}
 
 -- "Each answer is a code and a detail."

@@ -1,8 +1,8 @@
 // The archive for C and Rust: the public calls with pointers and lengths, an answer as its two numbers.
 ghost use mathlib.Core.Path.{_≡_};
 ghost use Rattle.library.specs.Exported.{Numbered, Opens, Steps, after};
-use checker::Called;
 use entries::Entry;
+use lent::Called;
 use lent::Carried;
 use rules::Answer;
 

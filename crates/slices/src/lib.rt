@@ -62,3 +62,15 @@ pub fn position(stack: &[u32], n: usize, id: u32) -> usize
     }
     j
 }
+
+// The words, over all of a buffer of 32.
+pub fn write_words(buffer: &mut [u64], words: [u64; 32])
+    requires { ⌜ length (now buffer) ≡ 32 ⌝ }
+    ensures { λ _. ⌜ now (buffer .exit) ≡ words ⌝ }
+{
+    let mut k = 0;
+    while k < 32 {
+        buffer[k] = words[k];
+        k += 1;
+    }
+}

@@ -20,9 +20,9 @@ use Rattle.lines.specs.declared.Reader.{Reader}
 use Rattle.lines.proofs.Program.{run-append, behind, run-behind}
 use Rattle.parts.specs.Giving.{met, Giving}
 use Rattle.parts.specs.declared.Given.{Given}
-use Rattle.checker.specs.Calls.{empty, opened-with}
-use Rattle.checker.specs.declared.Called.{Called}
-use Rattle.checker.proofs.Opening.{opens}
+use Rattle.lent.specs.declared.Called.{Called}
+use Rattle.opening.specs.Opened.{empty, opened-with}
+use Rattle.opening.proofs.Opened.{opens}
 use Rattle.zahrubel.specs.Through.{ran, Through, At, Going, Onward}
 
 pub through-none : (part : List ℕ) (l : Line) (s : State) → Through (take 0 part) l s l s

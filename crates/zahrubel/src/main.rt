@@ -58,7 +58,7 @@ fn main() {
     let mut rows = [[0u32; 5]; 1024];
     let mut pool = [0i32; 8192];
     let mut reader = lines::fresh();
-    let opened = checker::open_sized(2048, 1024, 8192);
+    let opened = opening::open_sized(2048, 1024, 8192);
     let mut carried = opened.carried;
     let mut turns = u64::MAX;
     while turns > 0 {

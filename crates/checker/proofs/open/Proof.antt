@@ -41,14 +41,14 @@ use Rattle.entries.specs.declared.Entry.{Entry}
 use Rattle.entries.proofs.Calls.{answers}
 use Rattle.entries.proofs.Values.{E}
 use Rattle.rules.specs.Answers.{check-open}
-use Rattle.checker.specs.Calls.{opened-with}
+use Rattle.opening.specs.Opened.{opened-with}
 use Rattle.checker.proofs.Opening.{opening-of}
-use Rattle.checker.specs.declared.Called.{Called}
-use Rattle.checker.proofs.Called as TO
-use Rattle.checker.proofs.Called.Laws as TO′
-use Rattle.checker.proofs.open_sized as for′
-use Rattle.checker.proofs.open_sized.Symbol as for-def
-use Rattle.checker.proofs.open_sized.Met as for-thm
+use Rattle.lent.specs.declared.Called.{Called}
+use Rattle.lent.proofs.Called as TO
+use Rattle.lent.proofs.Called.Laws as TO′
+use Rattle.opening.proofs.open_sized as for′
+use Rattle.opening.proofs.open_sized.Symbol as for-def
+use Rattle.opening.proofs.open_sized.Met as for-thm
 use Rattle.checker.proofs.open.Key as key
 use Rattle.checker.proofs.open as f
 use Rattle.checker.proofs.open.Statement as stated
@@ -150,4 +150,4 @@ open-spec 𝓤 H 𝓜 𝓖 𝓡 =
     entered 𝓤 H (tripleOf 𝓤 H (𝓖 .A) f.signature (f.spec 𝓤 H (𝓖 .A) (𝓜 .mem) (𝓡 .run)))
     (tables 𝓤 H 𝓜 𝓡 code.env .C) (tables 𝓤 H 𝓜 𝓡 code.env .Λ) key.name code.function (code.unfolded 𝓤 H 𝓜 𝓡)
     (open-meets 𝓤 H (𝓖 .A) (givenOf 𝓤 H 𝓜 𝓖) (𝓜 .mem) (𝓡 .run) (tablesOf 𝓤 H 𝓜 (tables 𝓤 H 𝓜 𝓡 code.env))
-    (cited 𝓤 H (For 𝓤 H (𝓖 .A) (𝓜 .mem) (𝓡 .run)) 𝓜 𝓡 code.env for-def.name for-def.routine code.calls-checker·open-sized (for-thm.met 𝓤 H 𝓜 𝓖 𝓡)))
+    (cited 𝓤 H (For 𝓤 H (𝓖 .A) (𝓜 .mem) (𝓡 .run)) 𝓜 𝓡 code.env for-def.name for-def.routine code.calls-opening·open-sized (for-thm.met 𝓤 H 𝓜 𝓖 𝓡)))

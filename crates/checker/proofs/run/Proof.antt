@@ -87,8 +87,8 @@ stored-requires c κs = search needs
 enum-told-4 : tie.Need-enum-told-4
 enum-told-4 c = search needs
 
-write-model-requires : tie.Need-write-model-requires
-write-model-requires c κs = c .before .before .before .before .before .before .before .before .before .before .before .before .before .before .before .before .before .before .before .before .before .pre .2
+write-words-requires : tie.Need-write-words-requires
+write-words-requires c κs = c .before .before .before .before .before .before .before .before .before .before .before .before .before .before .before .before .before .before .before .before .before .pre .2
 
 left-requires-3 : tie.Need-left-requires-3
 left-requires-3 c κs = search needs
@@ -124,7 +124,7 @@ same-length-9 : tie.Need-same-length-9
 same-length-9 c = search needs
 
 returns-4 : tie.Need-returns-4
-returns-4 c = let x = c .before .before .before .before .before .before .before .before .before .before .before .before .before .before .before .before .before in rw (c .left3 .ensures, c .before .before .before .write-model .ensures) (ran-model (carried x) (rows x) (pool x) (working x .0) (working x .1) (working x .2) (long x) (c .before .before .before .before .before .before .before .before .before .before .before .step .ensures) (c .before .before .before .before .before .enum-told4 .given .1) (c .before .before .before .before .before .before .before .before .before .before .before .step .kept .0) _)
+returns-4 c = let x = c .before .before .before .before .before .before .before .before .before .before .before .before .before .before .before .before .before in rw (c .left3 .ensures, c .before .before .before .write-words .ensures) (ran-model (carried x) (rows x) (pool x) (working x .0) (working x .1) (working x .2) (long x) (c .before .before .before .before .before .before .before .before .before .before .before .step .ensures) (c .before .before .before .before .before .enum-told4 .given .1) (c .before .before .before .before .before .before .before .before .before .before .before .step .kept .0) _)
 
 pub run-spec : {M : Type 1} → statement M
 run-spec =
@@ -145,7 +145,7 @@ run-spec =
     squeeze-requires
     stored-requires
     enum-told-4
-    write-model-requires
+    write-words-requires
     left-requires-3
     same-length-3
     same-length-4

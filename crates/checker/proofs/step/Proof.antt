@@ -57,11 +57,11 @@ use Rattle.checker.specs.Running.{RunLent, taken}
 use Rattle.checker.proofs.Stepped.{steps-lent}
 use Rattle.lent.specs.declared.Carried.{Carried}
 use Rattle.checker.specs.declared.Ran.{Ran}
-use Rattle.checker.specs.declared.Called.{Called}
+use Rattle.lent.specs.declared.Called.{Called}
 use Rattle.lent.proofs.Carried as TC
 use Rattle.lent.proofs.Carried.Laws as TC′
-use Rattle.checker.proofs.Called as TS
-use Rattle.checker.proofs.Called.Laws as TS′
+use Rattle.lent.proofs.Called as TS
+use Rattle.lent.proofs.Called.Laws as TS′
 use Rattle.checker.proofs.Ran as TR
 use Rattle.checker.proofs.Ran.Laws as TR′
 use Rattle.checker.proofs.Big.{big}

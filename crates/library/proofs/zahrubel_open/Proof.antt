@@ -47,11 +47,11 @@ use Rattle.entries.proofs.Calls.{answers}
 use Rattle.entries.proofs.Values.{E}
 use Rattle.checker.specs.Calls.{Opening}
 use Rattle.lent.specs.declared.Carried.{Carried}
-use Rattle.checker.specs.declared.Called.{Called}
+use Rattle.lent.specs.declared.Called.{Called}
 use Rattle.lent.proofs.Carried as TC
 use Rattle.lent.proofs.Carried.Laws as TC′
-use Rattle.checker.proofs.Called as TO
-use Rattle.checker.proofs.Called.Laws as TO′
+use Rattle.lent.proofs.Called as TO
+use Rattle.lent.proofs.Called.Laws as TO′
 use Rattle.checker.proofs.open as open′
 use Rattle.checker.proofs.open.Symbol as open-def
 use Rattle.checker.proofs.open.Met as open-thm

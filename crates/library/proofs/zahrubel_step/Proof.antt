@@ -47,11 +47,11 @@ use Rattle.entries.proofs.Calls.{answers}
 use Rattle.entries.proofs.Values.{E}
 use Rattle.checker.specs.Calls.{Stepping}
 use Rattle.lent.specs.declared.Carried.{Carried}
-use Rattle.checker.specs.declared.Called.{Called}
+use Rattle.lent.specs.declared.Called.{Called}
 use Rattle.lent.proofs.Carried as TC
 use Rattle.lent.proofs.Carried.Laws as TC′
-use Rattle.checker.proofs.Called as TS
-use Rattle.checker.proofs.Called.Laws as TS′
+use Rattle.lent.proofs.Called as TS
+use Rattle.lent.proofs.Called.Laws as TS′
 use Rattle.checker.proofs.step as step′
 use Rattle.checker.proofs.step.Symbol as step-def
 use Rattle.checker.proofs.step.Met as step-thm

@@ -1,9 +1,9 @@
 use mathlib.Core.Path.{sym, _∙_}
 use native.Mathlib.Omega.{arith}
-use Rattle.checker.proofs.Opening.{unlent, no-vars, many-vars, opens}
+use Rattle.opening.proofs.Opened.{unlent, no-vars, many-vars, opens}
 use borrow.Author.Needs.{needs}
-use Rattle.checker.proofs.open_sized.Statement.{statement}
-use Rattle.checker.proofs.open_sized.Tie as tie
+use Rattle.opening.proofs.open_sized.Statement.{statement}
+use Rattle.opening.proofs.open_sized.Tie as tie
 
 in-sizes-requires : tie.Need-in-sizes-requires
 in-sizes-requires c κs = search needs

@@ -1,6 +1,6 @@
 use borrow.Author.Needs.{needs}
-use Rattle.checker.proofs.unopened.Statement.{statement}
-use Rattle.checker.proofs.unopened.Tie as tie
+use Rattle.opening.proofs.unopened.Statement.{statement}
+use Rattle.opening.proofs.unopened.Tie as tie
 
 empty-requires : tie.Need-empty-requires
 empty-requires c κs = search needs

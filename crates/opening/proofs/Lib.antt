@@ -1,0 +1,2 @@
+-- Opening's two checks.
+pub mod Opened

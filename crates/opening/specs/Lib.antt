@@ -1,0 +1,2 @@
+-- What an opening hands out.
+pub mod Opened
