@@ -16,7 +16,8 @@ use Rattle.rules.specs.declared.Check.the-variants.{Passed, Failed}
 use Rattle.rules.specs.declared.Answer.the-variants.{Accepted, Refused}
 use Rattle.rules.proofs.Checks.{then-left, then-right, need-true, flaw-clause}
 use Rattle.table.specs.Spelled.{Row, row-at, id-of, held, clauses, held-rows, spelled, Fit}
-use Rattle.writes.specs.Moved.{Moved, New, Weakenable}
+use Rattle.writes.specs.Moved.{Moved, New}
+use Rattle.records.specs.Records.{Weakenable}
 use Rattle.table.specs.declared.Table.{Table}
 use Rattle.table.proofs.Readers.{count-held, gone-most, words-held}
 use Rattle.rules.specs.Lists.{any}

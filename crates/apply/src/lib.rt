@@ -102,7 +102,7 @@ pub fn weaken(
     let judged = weakening::judge_weaken(rows, pool, stack, t, id, w, ws);
     match judged {
         Judged::Refused(fault) => stepped::refused(fault, t),
-        Judged::Accepted(k) => stepped::accepted(writes::weaken(rows, pool, stack, t, k, w)),
+        Judged::Accepted(k) => stepped::accepted(records::weaken(rows, pool, stack, t, k, w)),
     }
 }
 

@@ -6,7 +6,7 @@ use Rattle.rules.specs.declared.Check.the-variants.{Passed}
 use Rattle.table.specs.Spelled.{Fit, spelled}
 use Rattle.checks.specs.Located.{RowOf}
 use Rattle.judge.specs.Judged.{Judges}
-use Rattle.writes.specs.Moved.{Weakenable}
+use Rattle.records.specs.Records.{Weakenable}
 use Rattle.apply.proofs.Passing.{refused, accepted, refusal, at-row, of-id, weakenable}
 use borrow.Author.Needs.{needs}
 use Rattle.apply.proofs.weaken.Statement.{statement}

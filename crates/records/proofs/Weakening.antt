@@ -11,7 +11,8 @@ use Rattle.rules.specs.Lists.{all}
 use Rattle.rules.specs.Terms.{is-clause, is-witness, distinct, State}
 use Rattle.rules.specs.Frames.{WEAKEN, plain}
 use Rattle.table.specs.Spelled.{Row, row-at, id-of, place-of, size, clause-part, held-rows, from-top, Lawful, Listed, Core, gone-one, Fit, Entry, entry}
-use Rattle.writes.specs.Moved.{Moved, lessened, grown, blank-row}
+use Rattle.writes.specs.Moved.{Moved}
+use Rattle.records.specs.Records.{lessened, grown, blank-row}
 use Rattle.slices.specs.Writes.{written}
 use Rattle.room.specs.Room.{Roomy}
 use Rattle.table.specs.declared.Table.{Table}

@@ -1,4 +1,4 @@
--- `writes::weaken` meets its contract: the row is blanked, room is made, and the record's law is cited.
+-- `records::weaken` meets its contract: the row is blanked, room is made, and the record's law is cited.
 use mathlib.Core.Path.{_≡_, sym, _∙_, ap}
 use mathlib.Core.List.{List}
 use Prim.Native.Nat.{_+_, _-_, _≤_}
@@ -7,17 +7,17 @@ use lib.IntN.{ℤ}
 use lib.ListN.{length, set, take, drop}
 use Rattle.table.specs.Spelled.{Row, row-at, length-of, size, clause-part, Inside, Fit}
 use Rattle.room.specs.Room.{Roomy}
-use Rattle.writes.specs.Moved.{Weakenable, lessened, blank-row}
+use Rattle.records.specs.Records.{Weakenable, lessened, blank-row}
 use Rattle.table.specs.declared.Table.{Table}
 use Rattle.slices.proofs.Slices.{part-is, over-front}
 use Rattle.table.proofs.Rows.{clause-length}
 use Rattle.table.proofs.Readers.{row-inside}
 use Rattle.writes.proofs.Moves.{row-held, row-short}
 use Rattle.room.proofs.Packing.{roomy-is}
-use Rattle.writes.proofs.Weakening.{blank-fit, record-numbers, weaken-moves}
+use Rattle.records.proofs.Weakening.{blank-fit, record-numbers, weaken-moves}
 use borrow.Author.Needs.{needs}
-use Rattle.writes.proofs.weaken.Statement.{statement}
-use Rattle.writes.proofs.weaken.Tie as tie
+use Rattle.records.proofs.weaken.Statement.{statement}
+use Rattle.records.proofs.weaken.Tie as tie
 
 -- the row as it was, and the words of it that are copied out
 module _ (c : tie.After-wide2) where

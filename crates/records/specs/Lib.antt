@@ -1,0 +1,2 @@
+-- What WEAKEN has been judged by, and what its writer does to table and row.
+pub mod Records
