@@ -20,7 +20,7 @@ use Rattle.stepped.specs.Told.{unless-refused}
 use Rattle.stepped.specs.declared.Stepped.{Stepped}
 use Rattle.steps.specs.Steps.{Steps, writes}
 use Rattle.lines.specs.Lines.{written, following}
-use Rattle.lines.specs.Machine.{line-of, is-frame, frame}
+use Rattle.lines.specs.Machine.{line-of, is-frame}
 use Rattle.lines.specs.Lent.{Wrote, Closed}
 use Rattle.lines.specs.declared.Reader.{Reader}
 use Rattle.closing.specs.Replies.{listed}

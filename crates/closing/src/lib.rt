@@ -1,5 +1,4 @@
 // 0A: a line is closed. It is judged, applied and answered.
-ghost use mathlib.Core.Path.{_≡_};
 ghost use Prim.Native.Nat.{_+_, _≤_};
 ghost use lib.ListN.{length};
 ghost use Rattle.lines.specs.Lines as paper;

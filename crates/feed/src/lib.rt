@@ -1,5 +1,4 @@
 // Lines fed to the checker: read, and each one closed, as the bytes come.
-ghost use mathlib.Core.Path.{_≡_};
 ghost use Prim.Native.Nat.{_≤_};
 ghost use lib.ListN.{length};
 ghost use Rattle.lines.specs.Machine.{run-of};

@@ -7,7 +7,7 @@ use Prim.Native.Nat.{ℕ, zero, suc, _+_}
 use lib.Dec.{eqb, ltb, leb}
 use lib.IntN.{ℤ}
 use lib.ListN.{length, take}
-use Rattle.rules.specs.Lists.{any, all}
+use Rattle.rules.specs.Lists.{all}
 use Rattle.rules.specs.Terms.{Held, State, is-plain, is-record, has, fetch}
 use Rattle.table.specs.Facts.{total}
 use Rattle.table.specs.Spelled.{Row, id-of, place-of, start-of, size, held, clauses, settled}

@@ -12,7 +12,7 @@ use borrow.Author.Tests.{eq-eqb}
 use Rattle.rules.specs.Terms.{is-clause}
 use Rattle.rules.specs.Frames.{Frame, ADD, LEARN, FORGET, PROMOTE, DROP, RESTORE, plain, next}
 use Rattle.table.specs.Facts.{All, none, total}
-use Rattle.table.specs.Spelled.{Row, row-at, id-of, place-of, start-of, length-of, witness-of, size, part, clause-part, witness-part, held, stands, held-rows, from-top, spelled, Inside, Lawful, Listed, Core, gone-one, Fit, Entry, entry}
+use Rattle.table.specs.Spelled.{Row, row-at, id-of, place-of, start-of, length-of, witness-of, size, part, clause-part, witness-part, held, stands, held-rows, from-top, Inside, Lawful, Listed, Core, gone-one, Fit, Entry, entry}
 use Rattle.writes.specs.Moved.{Moved, New, RowHeld}
 use Rattle.slices.specs.Writes.{written, closed}
 use Rattle.table.specs.declared.Table.{Table}

@@ -52,7 +52,7 @@ use Rattle.entries.specs.Lent.{entry-of, row-of}
 use Rattle.entries.specs.declared.Entry.{Entry}
 use Rattle.entries.proofs.Calls.{answers}
 use Rattle.entries.proofs.Copying.{taken-apart, put-together}
-use Rattle.entries.proofs.Values.{E, R, Rows, rows-ty, rows-val, rows-vals, rows-tells, rows-makes, rows-typed}
+use Rattle.entries.proofs.Values.{E, R, Rows, rows-ty, rows-vals, rows-tells, rows-makes, rows-typed}
 use Rattle.checker.specs.Running.{RunLent, taken}
 use Rattle.checker.proofs.Stepped.{steps-lent}
 use Rattle.lent.specs.declared.Carried.{Carried}
