@@ -33,7 +33,7 @@ pub fn feed(
     ensures fed { λ q. ⌜ lent.Fed (now (part .entry)) from (q .from) (run-of r (now (frame .entry)) (spelled t (now (rows .entry)) (now (pool .entry)) (now (stack .entry))) (now (out .entry)) at)
         (run-of (q .reader) (now (frame .exit)) (spelled (q .table) (now (rows .exit)) (now (pool .exit)) (now (stack .exit))) (now (out .exit)) (q .at)) (length (now (out .entry))) at (q .at) ⌝ }
 {
-    let values = lines::values();
+    let values = hex::values();
     let mut i = from;
     let mut a = at;
     let mut reader = r;

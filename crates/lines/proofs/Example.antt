@@ -10,7 +10,7 @@ use Rattle.rules.specs.Terms.{lit, upd, fetch, room}
 use Rattle.rules.specs.Frames.{framed-if, parse, without, above, place, put, make, mend}
 use Rattle.rules.specs.Answers.{_then_, need, flaw, ranged, ascending, cleanly, groups, satisfied, assumed-true, check, differ, outcome}
 use Rattle.rules.specs.Outcomes.{trues}
-use Rattle.lines.specs.Hex.{digit, value-at, signed, glyph, hex}
+use Rattle.hex.specs.Hex.{digit, value-at, signed, glyph, hex}
 use Rattle.lines.specs.Lines.{closed-lines, unclosed, words-of, frame-of, spelled, numbered, replies, program, output}
 
 -- a text and 0A

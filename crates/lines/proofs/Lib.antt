@@ -1,7 +1,5 @@
 -- Reading: the machine over a line. Program: its run is the program, wherever the input is cut. Example: document 01's.
 pub mod Slices
-pub mod Digits
-pub mod Signed
 pub mod Reading
 pub mod Program
 pub mod Example

@@ -9,10 +9,10 @@ use borrow.Author.Tests.{ne-eqb, ltb-true}
 use Rattle.rules.specs.Lists.{all}
 use Rattle.rules.specs.Terms.{State}
 use Rattle.rules.proofs.Lists.{by-cases, all-head, all-tail}
-use Rattle.lines.specs.Hex.{digit, is-digit}
+use Rattle.hex.specs.Hex.{digit, is-digit}
+use Rattle.hex.proofs.Digits.{end-beyond}
 use Rattle.lines.specs.Lines.{closed-lines, unclosed, frame-of, judged, reply, replies, program}
 use Rattle.lines.specs.Machine.{Line, fresh, push, reads, frame, Run, started, close, move, run, run-parts, ended}
-use Rattle.lines.proofs.Digits.{end-beyond}
 use Rattle.lines.proofs.Reading.{reads-snoc, frame-read, ended-read}
 
 -- ---- in parts

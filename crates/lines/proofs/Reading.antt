@@ -14,11 +14,11 @@ use lib.Pow.{pow-mono}
 use borrow.Author.Tests.{lt-ltb, le-ltb, le-leb, lt-leb, leb-true, ltb-true, ltb-false, eq-eqb, ne-eqb, eqb-true}
 use Rattle.rules.specs.Lists.{all}
 use Rattle.rules.proofs.Lists.{by-cases, and-left, and-right, and-both, true-false, all-nil, all-cons, all-append, all-index}
-use Rattle.lines.specs.Hex.{digit, is-digit, value-at, signed}
+use Rattle.hex.specs.Hex.{digit, is-digit, value-at, signed}
+use Rattle.hex.proofs.Digits.{Digits, value-below}
 use Rattle.lines.specs.Lines.{words-of, frame-of, ending}
 use Rattle.lines.specs.Machine.{Line, fresh, spoil, roll, grow, push, reads, frame, ended}
 use Rattle.lines.proofs.Slices.{slice-snoc, slice-join}
-use Rattle.lines.proofs.Digits.{Digits, value-below}
 
 reads-append : (l : Line) (xs ys : List ℕ) → reads l (xs ++ ys) ≡ reads (reads l xs) ys
 unfolding reads

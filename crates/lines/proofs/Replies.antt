@@ -1,5 +1,5 @@
 -- A reply: its length, the room that it takes, and V, which no frame changes.
-use mathlib.Core.Path.{_≡_, refl, ap}
+use mathlib.Core.Path.{_≡_, refl}
 use mathlib.Core.Bool.{Bool, true, false, cond}
 use mathlib.Core.List.{List, [], _∷_, _++_}
 use mathlib.Core.Option.{Option, none, some}
@@ -15,15 +15,11 @@ use Rattle.rules.specs.declared.Answer.the-variants.{Refused}
 use Rattle.rules.specs.declared.Fault.the-variants.{Malformed}
 use Rattle.rules.proofs.Lists.{by-cases}
 use Rattle.rules.proofs.Lasting.{outcome-lasts}
-use Rattle.lines.specs.Hex.{hex}
+use Rattle.hex.specs.Hex.{hex}
+use Rattle.hex.proofs.Digits.{hex-length}
 use Rattle.lines.specs.Lines.{judged, spelled, numbered, following, reply, refusal}
 use Rattle.lines.specs.Machine.{is-begun, ended}
 use Rattle.lines.specs.Lent.{Wrote}
-
-pub hex-length : (k n : ℕ) → length (hex k n) ≡ k
-unfolding hex
-hex-length zero n = refl
-hex-length (suc k) n = ap suc (hex-length k n)
 
 pub numbered-length : (a : Answer) → length (numbered a) ≡ 16
 unfolding numbered

@@ -8,11 +8,11 @@ use lib.IntN.{ℤ}
 use lib.ListN.{length, take, set, length-set}
 use lib.Seq.{slice, slice-empty, take-suc-set}
 use Rattle.rules.specs.Terms.{State}
-use Rattle.lines.specs.Hex.{beyond, value-at, signed}
+use Rattle.hex.specs.Hex.{beyond, value-at, signed}
+use Rattle.hex.proofs.Digits.{value-digits}
 use Rattle.lines.specs.Machine.{Line, reads, run}
 use Rattle.lines.specs.Lent.{Took}
 use Rattle.lines.proofs.Slices.{slice-join}
-use Rattle.lines.proofs.Digits.{value-digits}
 use Rattle.lines.proofs.Reading.{reached, digits-all, word-read}
 use Rattle.lines.proofs.Program.{run-append, run-digits}
 

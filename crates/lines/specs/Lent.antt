@@ -3,16 +3,11 @@ use mathlib.Core.Path.{_≡_}
 use mathlib.Core.List.{List, _++_}
 use mathlib.Core.Logic.{_⊎_}
 use Prim.Native.Nat.{ℕ, _+_, _≤_, _<_}
-use lib.ListN.{length, getD, take}
+use lib.ListN.{length, take}
 use lib.Seq.{slice}
 use Rattle.rules.specs.Terms.{State}
-use Rattle.lines.specs.Hex.{digit}
 use Rattle.lines.specs.Lines.{judged, reply}
 use Rattle.lines.specs.Machine.{Line, frame, Run, run}
-
--- a table of what each byte counts as
-pub record Values (table : List ℕ) : Type 0 where
-  pub each : (b : ℕ) → b < 256 → getD table b 0 ≡ digit b
 
 -- the bytes from `from` to before from′ were taken, none of them 0A, and l became l′
 pub record Took (part : List ℕ) (from from′ : ℕ) (l l′ : Line) : Type 0 where

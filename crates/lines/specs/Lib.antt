@@ -1,4 +1,3 @@
-pub mod Hex
 pub mod Lines
 pub mod Machine
 pub mod Lent

@@ -14,7 +14,7 @@ use Rattle.rules.specs.Outcomes.{trues}
 use Rattle.rules.specs.declared.Answer.{Answer}
 use Rattle.rules.specs.declared.Answer.the-variants.{Refused}
 use Rattle.rules.specs.declared.Fault.the-variants.{Malformed}
-use Rattle.lines.specs.Hex.{is-digit, value-at, signed, hex}
+use Rattle.hex.specs.Hex.{is-digit, value-at, signed, hex}
 
 -- ---- the lines of an input
 

@@ -7,7 +7,7 @@ use lib.Dec.{eqb, ltb}
 use lib.ListN.{take}
 use lib.IntN.{ℤ}
 use Rattle.rules.specs.Terms.{State}
-use Rattle.lines.specs.Hex.{digit, is-digit, signed}
+use Rattle.hex.specs.Hex.{digit, is-digit, signed}
 use Rattle.lines.specs.Lines.{judged, reply, refusal}
 use Rattle.lines.specs.declared.Reader.{Reader}
 

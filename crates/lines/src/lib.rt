@@ -1,11 +1,11 @@
 // Hexadecimal lines: a reader that takes bytes as they come.
 ghost use mathlib.Core.Path.{_≡_};
 ghost use mathlib.Core.Bool.{false};
-ghost use Prim.Native.Nat.{_+_, _≤_, _<_};
+ghost use Prim.Native.Nat.{_≤_};
 ghost use lib.ListN.{length};
-ghost use Rattle.lines.specs.Hex.{digit, value-at, signed};
+ghost use Rattle.hex.specs.Hex.{Values};
 ghost use Rattle.lines.specs.Machine.{line-of, push, is-frame};
-ghost use Rattle.lines.specs.Lent.{Values, Took};
+ghost use Rattle.lines.specs.Lent.{Took};
 
 // What is read of the line that is not closed yet. Its whole words are in the lent frame buffer.
 pub struct Reader {
@@ -31,78 +31,6 @@ pub fn is_framed(r: Reader) -> bool
     !r.spoilt && r.digits % 8 == 0
 }
 
-// What a byte counts as: a digit its value, any other more than any word.
-fn value(b: usize) -> u64
-    ensures { λ r. ⌜ r ≡ digit b ⌝ }
-{
-    if b < 48 {
-        return 4294967296;
-    }
-    if b < 58 {
-        return (b - 48) as u64;
-    }
-    if b < 97 {
-        return 4294967296;
-    }
-    if b < 103 {
-        return (b - 87) as u64;
-    }
-    4294967296
-}
-
-// The values of all bytes, to be made once and lent.
-pub fn values() -> [u64; 256]
-    ensures { λ r. ⌜ Values r ⌝ }
-{
-    let mut table = [0u64; 256];
-    let mut b: usize = 0;
-    while b < 256 {
-        table[b] = value(b);
-        b += 1;
-    }
-    table
-}
-
-fn index(b: u8) -> usize
-    ensures { λ r. ⌜ (r ≡ b) × (r < 256) ⌝ }
-{
-    b as usize
-}
-
-fn two(values: &[u64; 256], part: &[u8], i: usize) -> u64
-    requires { ⌜ (i + 2 ≤ length (now part)) × Values (now values) ⌝ }
-    ensures { λ r. ⌜ r ≡ value-at (now (part .entry)) i 2 ⌝ }
-{
-    values[index(part[i])] * 16 + values[index(part[i + 1])]
-}
-
-fn four(values: &[u64; 256], part: &[u8], i: usize) -> u64
-    requires { ⌜ (i + 4 ≤ length (now part)) × Values (now values) ⌝ }
-    ensures { λ r. ⌜ r ≡ value-at (now (part .entry)) i 4 ⌝ }
-{
-    two(values, part, i) * 256 + two(values, part, i + 2)
-}
-
-// The value of eight digits; more than any word where one of the bytes is no digit.
-fn eight(values: &[u64; 256], part: &[u8], i: usize) -> u64
-    requires { ⌜ (i + 8 ≤ length (now part)) × Values (now values) ⌝ }
-    ensures { λ r. ⌜ r ≡ value-at (now (part .entry)) i 8 ⌝ }
-{
-    four(values, part, i) * 65536 + four(values, part, i + 4)
-}
-
-// Two's complement.
-fn signed_of(w: u64) -> i32
-    requires { ⌜ w < 4294967296 ⌝ }
-    ensures { λ r. ⌜ r ≡ signed w ⌝ }
-{
-    if w < 2147483648 {
-        return w as i32;
-    }
-    let m = 4294967295 - w;
-    -1 - (m as i32)
-}
-
 // One byte that is not 0A.
 pub fn push_byte(r: Reader, frame: &mut [i32], b: u8) -> Reader
     requires { ⌜ (r .digits ≤ 32768) × (4096 ≤ length (now frame)) ⌝ }
@@ -114,7 +42,7 @@ pub fn push_byte(r: Reader, frame: &mut [i32], b: u8) -> Reader
     if r.spoilt {
         return r;
     }
-    let v = value(index(b));
+    let v = hex::value(hex::index(b));
     if 15 < v || digits == 32768 {
         return Reader {
             digits,
@@ -125,7 +53,7 @@ pub fn push_byte(r: Reader, frame: &mut [i32], b: u8) -> Reader
     let w = word % 268435456 * 16 + v;
     if digits % 8 == 7 {
         let k = digits / 8;
-        let x = signed_of(w);
+        let x = hex::signed_of(w);
         frame[k] = x;
         return Reader {
             digits: digits + 1,
@@ -166,11 +94,11 @@ pub fn take_words(
         if part.len() - i < 8 {
             break;
         }
-        let w = eight(values, part, i);
+        let w = hex::eight(values, part, i);
         if 4294967295 < w {
             break;
         }
-        let x = signed_of(w);
+        let x = hex::signed_of(w);
         frame[k] = x;
         k += 1;
         i += 8;

@@ -15,7 +15,7 @@ use Rattle.rules.specs.Outcomes.{trues}
 use Rattle.rules.proofs.Lists.{by-cases}
 use Rattle.words.specs.Words.{bit, assigned}
 use Rattle.words.proofs.Bits.{bit-none}
-use Rattle.lines.specs.Hex.{hex}
+use Rattle.hex.specs.Hex.{hex}
 use Rattle.lines.specs.Lines.{spelled}
 use Rattle.lines.specs.Lent.{Wrote}
 use Rattle.lines.proofs.Replies.{spelled-length, trues-few}

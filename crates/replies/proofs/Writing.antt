@@ -9,10 +9,11 @@ use lib.ListN.{length, take, set, length-append, length-set}
 use lib.Seq.{take-suc-set}
 use lib.Pow.{pow-add}
 use Rattle.rules.specs.declared.Answer.{Answer}
-use Rattle.lines.specs.Hex.{glyph, hex}
+use Rattle.hex.specs.Hex.{glyph, hex}
+use Rattle.hex.proofs.Digits.{hex-length}
 use Rattle.lines.specs.Lines.{numbered}
 use Rattle.lines.specs.Lent.{Wrote}
-use Rattle.lines.proofs.Replies.{hex-length, numbered-length}
+use Rattle.lines.proofs.Replies.{numbered-length}
 
 pub wrote-none : (o : List ℕ) (a : ℕ) → Wrote o a [] o a
 wrote-none o a = record { place = omega arith; bytes = sym (append-nil (take a o)) }

@@ -1,11 +1,11 @@
-// The line of an answer, as bytes, and what the end of input adds. What is written is defined in `lines`.
+// The line of an answer, as bytes, and what the end of input adds. What is written is defined in `lines`, its digits in `hex`.
 ghost use mathlib.Core.Path.{_≡_};
 ghost use mathlib.Core.List.{[], _∷_};
 ghost use Prim.Native.Nat.{_+_, _≤_, _<_};
 ghost use lib.ListN.{length};
 ghost use Rattle.rules.specs.Outcomes.{trues};
 ghost use Rattle.words.specs.Words.{assigned};
-ghost use Rattle.lines.specs.Hex.{glyph, hex};
+ghost use Rattle.hex.specs.Hex.{glyph, hex};
 ghost use Rattle.lines.specs.Lines.{spelled, numbered, written};
 ghost use Rattle.lines.specs.Machine.{ended};
 ghost use Rattle.lines.specs.Lent.{Wrote};

@@ -5,8 +5,8 @@ use Prim.Native.Nat.{ℕ, _+_, _-_, _≤_, _<_}
 use native.Mathlib.Omega.{arith}
 use lib.ListN.{length}
 use Rattle.table.specs.Spelled.{spelled, Fit}
+use Rattle.hex.specs.Hex.{Values}
 use Rattle.lines.specs.Machine.{run-of}
-use Rattle.lines.specs.Lent.{Values}
 use Rattle.lines.proofs.Feeding.{Feeding, feeding-start, feeding-words, feeding-push, feeding-close, fed-room, fed-end}
 use borrow.Author.Needs.{needs}
 use Rattle.feed.proofs.feed.Statement.{statement}

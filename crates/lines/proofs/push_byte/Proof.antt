@@ -5,9 +5,9 @@ use native.Mathlib.Omega.{arith}
 use borrow.Author.Needs.{needs}
 use borrow.Author.Tests.{eqb-true, eqb-false}
 use lib.Seq.{take-suc-set}
-use Rattle.lines.specs.Hex.{digit, signed}
+use Rattle.hex.specs.Hex.{digit, signed}
+use Rattle.hex.proofs.Signed.{stored}
 use Rattle.lines.specs.Machine.{roll}
-use Rattle.lines.proofs.Signed.{stored}
 use Rattle.lines.proofs.Reading.{push-spoilt, push-spoils, push-digit, push-eighth}
 use Rattle.lines.proofs.push_byte.Statement.{statement}
 use Rattle.lines.proofs.push_byte.Tie as tie

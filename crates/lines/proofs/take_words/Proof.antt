@@ -2,8 +2,8 @@ use Prim.Native.Nat.{_-_, _<_}
 use native.Mathlib.Omega.{arith}
 use borrow.Author.Needs.{needs}
 use borrow.Author.Tests.{eqb-true, not-false}
-use Rattle.lines.specs.Hex.{beyond, value-at}
-use Rattle.lines.proofs.Signed.{stored}
+use Rattle.hex.specs.Hex.{beyond, value-at}
+use Rattle.hex.proofs.Signed.{stored}
 use Rattle.lines.proofs.Words.{Words, words-start, words-more, took, took-none}
 use Rattle.lines.proofs.take_words.Statement.{statement}
 use Rattle.lines.proofs.take_words.Tie as tie

@@ -1,6 +1,6 @@
 use borrow.Author.Needs.{needs}
 use borrow.Author.Tests.{lt-ltb, le-ltb}
-use Rattle.lines.specs.Hex.{glyph}
+use Rattle.hex.specs.Hex.{glyph}
 use Rattle.replies.proofs.glyph_of.Statement.{statement}
 use Rattle.replies.proofs.glyph_of.Tie as tie
 

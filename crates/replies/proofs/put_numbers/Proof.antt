@@ -1,7 +1,7 @@
 use mathlib.Core.Path.{ap}
 use native.Mathlib.Omega.{arith}
 use borrow.Author.Needs.{needs}
-use Rattle.lines.specs.Hex.{hex}
+use Rattle.hex.specs.Hex.{hex}
 use Rattle.lines.specs.Lines.{numbered}
 use Rattle.replies.proofs.Writing.{hex-end, wrote-then, wrote-as}
 use Rattle.replies.proofs.put_numbers.Statement.{statement}

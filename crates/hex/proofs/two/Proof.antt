@@ -3,10 +3,10 @@ use Prim.Native.Nat.{_+_}
 use native.Mathlib.Omega.{arith}
 use borrow.Author.Needs.{needs}
 use lib.ListN.{getD}
-use Rattle.lines.specs.Hex.{digit}
-use Rattle.lines.proofs.Digits.{digit-most, value-two, looked-up}
-use Rattle.lines.proofs.two.Statement.{statement}
-use Rattle.lines.proofs.two.Tie as tie
+use Rattle.hex.specs.Hex.{digit}
+use Rattle.hex.proofs.Digits.{digit-most, value-two, looked-up}
+use Rattle.hex.proofs.two.Statement.{statement}
+use Rattle.hex.proofs.two.Tie as tie
 
 -- the value of the first byte, and of the second
 first : (x : tie.After-result) → let s = x .before .before .before .before in getD (s .args .values .now) (x .before .index .result) 0 ≡ digit (getD (s .args .part .now) (s .args .i) 0)

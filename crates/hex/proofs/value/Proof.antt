@@ -1,8 +1,8 @@
 use borrow.Author.Needs.{needs}
 use borrow.Author.Tests.{le-ltb, lt-ltb}
-use Rattle.lines.specs.Hex.{digit}
-use Rattle.lines.proofs.value.Statement.{statement}
-use Rattle.lines.proofs.value.Tie as tie
+use Rattle.hex.specs.Hex.{digit}
+use Rattle.hex.proofs.value.Statement.{statement}
+use Rattle.hex.proofs.value.Tie as tie
 
 returns : tie.Need-returns
 unfolding digit

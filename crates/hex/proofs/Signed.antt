@@ -8,7 +8,7 @@ use mir.Syntax.{w32}
 use mir.Val.{SFits, toZ, ofZ}
 use mir.Facts.{toZ-ofZ}
 use borrow.Author.Tests.{lt-ltb, le-ltb}
-use Rattle.lines.specs.Hex.{signed}
+use Rattle.hex.specs.Hex.{signed}
 
 pub low : (w : ℕ) → w < 2147483648 → toZ w32 w ≡ signed w
 unfolding signed

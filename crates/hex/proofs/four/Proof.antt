@@ -1,9 +1,9 @@
 use Prim.Native.Nat.{_+_}
 use native.Mathlib.Omega.{arith}
 use borrow.Author.Needs.{needs}
-use Rattle.lines.proofs.Digits.{value-most, value-split}
-use Rattle.lines.proofs.four.Statement.{statement}
-use Rattle.lines.proofs.four.Tie as tie
+use Rattle.hex.proofs.Digits.{value-most, value-split}
+use Rattle.hex.proofs.four.Statement.{statement}
+use Rattle.hex.proofs.four.Tie as tie
 
 two-requires : tie.Need-two-requires
 two-requires c κs = search needs

@@ -1,4 +1,4 @@
--- What bytes count as, the value of several digits, and two's complement.
+-- What bytes count as, the value of several digits, and how many are written.
 use mathlib.Core.Path.{_≡_, refl, ap, _∙_}
 use mathlib.Core.Logic.{_⊎_, inl, inr, ⊎-elim}
 use mathlib.Core.List.{List}
@@ -10,8 +10,7 @@ use lib.ListN.{length, getD, set}
 use lib.Seq.{getD-set-same, getD-set-other}
 use lib.Pow.{pow-add}
 use borrow.Author.Tests.{lt-ltb, le-ltb}
-use Rattle.lines.specs.Hex.{beyond, digit, value-at}
-use Rattle.lines.specs.Lent.{Values}
+use Rattle.hex.specs.Hex.{beyond, digit, Values, value-at, hex}
 
 -- a byte is a digit, or counts as more than any word
 pub digit-or : (b : ℕ) → (digit b < 16) ⊎ (digit b ≡ beyond)
@@ -91,3 +90,10 @@ values-more table b {v} h e f k m = elim (decLt k b) [
 
 pub looked-up : {table : List ℕ} → Values table → {x b : ℕ} → (x ≡ b) × (x < 256) → getD table x 0 ≡ digit b
 looked-up v {x} {b} e = v .each x (e .1) ∙ ap digit (e .0)
+
+-- ---- writing
+
+pub hex-length : (k n : ℕ) → length (hex k n) ≡ k
+unfolding hex
+hex-length zero n = refl
+hex-length (suc k) n = ap suc (hex-length k n)

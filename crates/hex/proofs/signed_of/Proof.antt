@@ -1,7 +1,7 @@
 use borrow.Author.Needs.{needs}
-use Rattle.lines.proofs.Signed.{low, high, high-fits}
-use Rattle.lines.proofs.signed_of.Statement.{statement}
-use Rattle.lines.proofs.signed_of.Tie as tie
+use Rattle.hex.proofs.Signed.{low, high, high-fits}
+use Rattle.hex.proofs.signed_of.Statement.{statement}
+use Rattle.hex.proofs.signed_of.Tie as tie
 
 cast-result : tie.Need-cast-result
 cast-result c = search needs

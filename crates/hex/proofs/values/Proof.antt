@@ -3,10 +3,10 @@ use Prim.Native.Nat.{ℕ, _<_, _-_}
 use native.Mathlib.Omega.{arith}
 use borrow.Author.Needs.{needs}
 use lib.ListN.{length, getD, length-set}
-use Rattle.lines.specs.Hex.{digit}
-use Rattle.lines.proofs.Digits.{values-more}
-use Rattle.lines.proofs.values.Statement.{statement}
-use Rattle.lines.proofs.values.Tie as tie
+use Rattle.hex.specs.Hex.{digit}
+use Rattle.hex.proofs.Digits.{values-more}
+use Rattle.hex.proofs.values.Statement.{statement}
+use Rattle.hex.proofs.values.Tie as tie
 
 abbrev Inv-loop : tie.InvT-loop
 Inv-loop table₀ b₀ table b = (length table ≡ 256) × ((k : ℕ) → k < b → getD table k 0 ≡ digit k)

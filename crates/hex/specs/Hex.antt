@@ -1,7 +1,8 @@
 -- Document 01, "Tables and hexadecimal lines": digits, and words of eight.
+use mathlib.Core.Path.{_≡_}
 use mathlib.Core.Bool.{Bool, cond}
 use mathlib.Core.List.{List, [], _∷_}
-use Prim.Native.Nat.{ℕ, zero, suc, _+_, _-_, _*_, _/_, _%_, _^_}
+use Prim.Native.Nat.{ℕ, zero, suc, _+_, _-_, _*_, _/_, _%_, _^_, _<_}
 use lib.Dec.{ltb}
 use lib.ListN.{getD}
 use lib.IntN.{ℤ, pos, negsuc}
@@ -18,6 +19,10 @@ digit b = cond (ltb b 48) beyond (cond (ltb b 58) (b - 48) (cond (ltb b 97) beyo
 
 abbrev pub is-digit : ℕ → Bool
 is-digit b = ltb (digit b) 16
+
+-- a table of what each byte counts as
+pub record Values (table : List ℕ) : Type 0 where
+  pub each : (b : ℕ) → b < 256 → getD table b 0 ≡ digit b
 
 -- "most significant first": the value of k digits, from place i on
 unfoldable pub value-at : List ℕ → ℕ → ℕ → ℕ
