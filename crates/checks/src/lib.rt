@@ -74,7 +74,7 @@ pub fn decided(verdict: Verdict, at: usize, d: u32) -> Check
 }
 
 // 12, then 13: room for a clause of n literals, by the counts alone.
-pub fn room(pool: &[i32], t: Table, n: usize) -> Check
+pub fn free(pool: &[i32], t: Table, n: usize) -> Check
     requires { ⌜ n ≤ 256 ⌝ }
     ensures { λ r. ⌜ ((rows : List Row) (stack : List ℕ) → Fit t rows (now (pool .entry)) stack
         → r ≡ (free-entry (spelled t rows (now (pool .entry)) stack) then free-words (spelled t rows (now (pool .entry)) stack) n)) ⌝ }

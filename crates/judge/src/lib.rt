@@ -38,7 +38,7 @@ pub fn judge_add(
     if let Check::Failed(f) = clean {
         return Check::Failed(f);
     }
-    checks::room(pool, t, c.len())
+    checks::free(pool, t, c.len())
 }
 
 pub fn judge_learn(
@@ -57,8 +57,8 @@ pub fn judge_learn(
     if let Check::Failed(f) = sound {
         return Check::Failed(f);
     }
-    let free = checks::room(pool, t, c.len());
-    if let Check::Failed(f) = free {
+    let spare = checks::free(pool, t, c.len());
+    if let Check::Failed(f) = spare {
         return Check::Failed(f);
     }
     let n = t.count as usize;

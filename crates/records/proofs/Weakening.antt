@@ -20,7 +20,7 @@ use Rattle.table.proofs.Facts.{all-here, all-cut, all-unmap}
 use Rattle.slices.proofs.Slices.{part-same, split-same, take-next, take-swap, written-before, written-part, length-written}
 use Rattle.table.proofs.Entries.{entry-of, spell}
 use Rattle.table.proofs.Stacked.{listed-push}
-use Rattle.room.proofs.Refits.{refit}
+use Rattle.table.proofs.Refits.{refit}
 use Rattle.writes.proofs.Changes.{weakened}
 use Rattle.table.proofs.Rows.{clause-length, witness-length, earlier, later, plain-row, listed-cut, core-cut, clear-tail, Comes, entries-put, core-put}
 use Rattle.room.proofs.Packing.{roomy-lengths}

@@ -18,7 +18,7 @@ use Rattle.table.proofs.Facts.{all-here, all-more, all-map, all-unmap, total-jo
 use Rattle.slices.proofs.Slices.{length-over}
 use Rattle.table.proofs.Entries.{spell, clauses-spell}
 use Rattle.table.proofs.Rows.{LawfulEntry}
-use Rattle.room.proofs.Refits.{refit, spelled-is}
+use Rattle.table.proofs.Refits.{refit, spelled-is}
 
 -- ---- one more row
 

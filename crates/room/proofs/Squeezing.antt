@@ -20,7 +20,7 @@ use Rattle.table.specs.declared.Table.{Table}
 use Rattle.table.proofs.Facts.{all-more, all-both}
 use Rattle.table.proofs.Rows.{clause-length, witness-length, lawful-gone}
 use Rattle.room.specs.Room.{present, Closing, Squeezed, FreeRow}
-use Rattle.room.proofs.Refits.{refit}
+use Rattle.table.proofs.Refits.{refit}
 
 -- ---- some elements of a list
 

@@ -7,7 +7,7 @@ use Rattle.rules.specs.Terms.{State}
 use Rattle.rules.specs.Frames.{ADD, LEARN, FORGET, PROMOTE, DROP, WEAKEN, RESTORE, next}
 use Rattle.table.specs.Facts.{All}
 use Rattle.table.specs.Spelled.{Listed, Entry}
-use Rattle.room.proofs.Refits.{state-of}
+use Rattle.table.proofs.Refits.{state-of}
 use Rattle.table.proofs.Entries.{entry-of, spell, spell-unseen, spell-comes, spell-goes, fetch-here, has-here}
 use Rattle.table.proofs.Stacked.{listed-fetch, records-push, records-leave}
 

@@ -20,7 +20,7 @@ use Rattle.table.proofs.Facts.{all-here, all-more, all-map, all-unmap, total-jo
 use Rattle.slices.proofs.Slices.{take-next, take-swap, take-closed, length-closed, written-before, written-part, length-written}
 use Rattle.table.proofs.Entries.{entry-of, spell, clauses-spell, spell-unseen}
 use Rattle.table.proofs.Stacked.{listed-leave}
-use Rattle.room.proofs.Refits.{state-of, spelled-is, refit}
+use Rattle.table.proofs.Refits.{state-of, spelled-is, refit}
 use Rattle.writes.proofs.Changes.{added, learnt, forgotten, dropped, promoted, restored}
 use Rattle.table.proofs.Rows.{lawful-clause, clause-length, clause-short, entries-split, earlier, later, others-clear, own, listed-here, plain-row, listed-cut, core-cut, clear-tail, clear-less, Comes, entries-put, core-put}
 use Rattle.table.proofs.Readers.{row-inside, gone-most}

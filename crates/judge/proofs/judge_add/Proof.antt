@@ -57,11 +57,11 @@ returns-2 c = let x = c .before .before .before in sym (in-two _ _ _ ∙ goes-on
 enum-told-2 : tie.Need-enum-told-2
 enum-told-2 c = search needs
 
-room-requires : tie.Need-room-requires
-room-requires c κs = search needs
+free-requires : tie.Need-free-requires
+free-requires c κs = search needs
 
 returns-3 : tie.Need-returns-3
-returns-3 c = let x = c .before .before .before in c .room .ensures _ _ (s (x .before .before .before .before .before) .pre .0) ∙ sym (in-two _ _ _ ∙ goes-on (sound (x .before .before .before .before .before)) _ ∙ goes-on (sym (x .cleanly .ensures) ∙ c .before .enum-told2 .given .1) _)
+returns-3 c = let x = c .before .before .before in c .free .ensures _ _ (s (x .before .before .before .before .before) .pre .0) ∙ sym (in-two _ _ _ ∙ goes-on (sound (x .before .before .before .before .before)) _ ∙ goes-on (sym (x .cleanly .ensures) ∙ c .before .enum-told2 .given .1) _)
 
 pub judge-add-spec : {M : Type 1} → statement M
 judge-add-spec =
@@ -79,5 +79,5 @@ judge-add-spec =
     enum-known-clean
     returns-2
     enum-told-2
-    room-requires
+    free-requires
     returns-3)

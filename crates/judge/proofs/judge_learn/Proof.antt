@@ -30,7 +30,7 @@ module _ (x : tie.After-enum-told) where
   sound = sym (x .before .before .new-clause .ensures) ∙ x .enum-told .given .1
 
 -- 12 and 13, then the hints
-module _ (x : tie.After-room) where
+module _ (x : tie.After-free) where
   abbrev a : tie.Start
   a = s (x .before)
 
@@ -40,8 +40,8 @@ module _ (x : tie.After-room) where
   abbrev proved : Check
   proved = decided (3 + length (a .args .c .now)) 0 (proves (among (state .irredundant ++ state .learned)) (a .args .c .now) (a .args .hints .now))
 
-  left : check-learn state (a .args .id) (a .args .c .now) (a .args .hints .now) ≡ (x .room .result then proved)
-  left = in-two _ _ _ ∙ goes-on (sound (x .before)) _ ∙ in-two _ _ _ ∙ ap (λ r. r then proved) (sym (x .room .ensures _ _ (a .pre .0)))
+  left : check-learn state (a .args .id) (a .args .c .now) (a .args .hints .now) ≡ (x .free .result then proved)
+  left = in-two _ _ _ ∙ goes-on (sound (x .before)) _ ∙ in-two _ _ _ ∙ ap (λ r. r then proved) (sym (x .free .ensures _ _ (a .pre .0)))
 
 new-clause-requires : tie.Need-new-clause-requires
 new-clause-requires c κs = search needs
@@ -55,14 +55,14 @@ returns c = sym (in-two _ _ _ ∙ stops (sym (c .before .before .before .new-cla
 enum-told : tie.Need-enum-told
 enum-told c = search needs
 
-room-requires : tie.Need-room-requires
-room-requires c κs = search needs
+free-requires : tie.Need-free-requires
+free-requires c κs = search needs
 
-enum-known-free : tie.Need-enum-known-free
-enum-known-free c = search needs
+enum-known-spare : tie.Need-enum-known-spare
+enum-known-spare c = search needs
 
 returns-2 : tie.Need-returns-2
-returns-2 c = sym (left (c .before .before .before) ∙ stops (c .before .free .given .1) _)
+returns-2 c = sym (left (c .before .before .before) ∙ stops (c .before .spare .given .1) _)
 
 enum-told-2 : tie.Need-enum-told-2
 enum-told-2 c = search needs
@@ -99,8 +99,8 @@ judge-learn-spec =
     enum-known-sound
     returns
     enum-told
-    room-requires
-    enum-known-free
+    free-requires
+    enum-known-spare
     returns-2
     enum-told-2
     cast-n

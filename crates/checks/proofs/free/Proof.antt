@@ -12,8 +12,8 @@ use Rattle.table.specs.Spelled.{Row, Fit, spelled}
 use Rattle.table.specs.declared.Table.{Table}
 use Rattle.table.proofs.Readers.{gone-most, free-entry-is, free-words-is}
 use Rattle.checks.proofs.Order.{goes-on, stops, met, unmet}
-use Rattle.checks.proofs.room.Statement.{statement}
-use Rattle.checks.proofs.room.Tie as tie
+use Rattle.checks.proofs.free.Statement.{statement}
+use Rattle.checks.proofs.free.Tie as tie
 
 -- 12: the rows in use, less those whose clause is gone, are the clauses held
 module _ {t : Table} {rows : List Row} {pool : List ℤ} {stack : List ℕ} (f : Fit t rows pool stack) where
@@ -50,5 +50,5 @@ returns-2 c rows stack f = sym (goes-on (not-full f (c .before .if1 .left)) _ �
 returns-3 : tie.Need-returns-3
 returns-3 c rows stack f = sym (goes-on (not-full f (c .before .if1 .left)) _ ∙ free-words-is f _ ∙ met (le-leb _ _ (c .if2 .left)) _)
 
-pub room-spec : {M : Type 1} → statement M
-room-spec = tie.close (tie.spec cast-count cast-most cast-most-2 add-most cast-words add-words returns returns-2 returns-3)
+pub free-spec : {M : Type 1} → statement M
+free-spec = tie.close (tie.spec cast-count cast-most cast-most-2 add-most cast-words add-words returns returns-2 returns-3)
