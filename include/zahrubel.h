@@ -2,10 +2,45 @@
  *
  * The caller lends a table of clause entries, a pool of literal words and a model buffer, and carries a small record from call to call. Any
  * bits may stand in them: tables that are no state are refused with code 1. A refused call writes nothing; SAT and UNSAT never write the tables;
- * only an accepted SAT writes the model buffer.
+ * only an accepted SAT writes the model buffer. Frames come one by one, as words, or as lines of hexadecimal digits in parts of any bytes.
  *
  * What a caller owes is what C always asks: each pointer is aligned, not null (also where its length is 0), and points to as many elements as
  * the length says; what a call may write overlaps nothing else that it is handed, and no other thread touches it meanwhile.
+ *
+ * What a frame is, docs/FORMAT.md says; zahrubel_frames.h writes them. An example, which a test compiles and runs:
+ *
+ *     #include "zahrubel_frames.h"
+ *     #include <stdio.h>
+ *
+ *     static struct zahrubel_entry entries[64];
+ *     static int32_t pool[512], frame[64];
+ *     static struct zahrubel_carried carried;
+ *     static uint64_t model[ZAHRUBEL_MODEL_WORDS];
+ *
+ *     static void say(size_t words) {
+ *         struct zahrubel_answer answer = zahrubel_step(entries, 64, pool, 512, &carried, frame, words, model, ZAHRUBEL_MODEL_WORDS);
+ *         printf("%s, detail %d\n", zahrubel_code_name(answer.code), (int)answer.detail);
+ *     }
+ *
+ *     int main(void) {
+ *         const int32_t clause[] = {1, 2}, witness[] = {1};
+ *         zahrubel_open(2, entries, 64, pool, 512, &carried);
+ *         say(zahrubel_write_add(frame, 64, 1, clause, 2));
+ *         say(zahrubel_write_weaken(frame, 64, 1, witness, 1));
+ *         say(zahrubel_write_sat(frame, 64, NULL, 0, NULL, 0));
+ *         printf("flag 1 is %s\n", model[0] & 1 ? "shown" : "hidden");
+ *     }
+ *
+ * What a call costs. zahrubel_step and zahrubel_give first load what is lent, since it may have any bits: a pass over the held entries and the pool words that
+ * they hold, a search for each record, and a sort, which is one pass where the entries lie by rising id. Accepted changes leave them so; else it takes up to
+ * the square of their number. Then comes the frame's own work. zahrubel_give loads once for all lines of a part, so many frames are cheapest as lines.
+ * The other calls do not look at what is held. On an Arm processor (Neoverse-V1), with clauses of 3 literals, a step that learns by one hint took 1.9 us with
+ * 16 clauses held, 3.8 with 128, 17 with 1,023; loading was 15 of these 17, 70 where all are records, 1,400 by falling id; a line of a part of 1,000 took
+ * 0.09 to 0.12. host/examples/cost.rs measures it on the processor at hand.
+ *
+ * No call allocates, blocks or recurses. Stack: zahrubel_step takes 128 KB (127,664 bytes), zahrubel_give 100 KB, zahrubel_open 4.2 KB, the others below 200
+ * bytes: measured on a painted stack, and the same by adding up the frames in the machine code, on an Arm processor of 64 bits. On x86-64 it may differ:
+ * host/tests/stack.rs measures it on the processor at hand and holds every call to ZAHRUBEL_STACK_BYTES.
  *
  * The archive: tools/native --lib library libzahrubel.a
  */
@@ -27,6 +62,44 @@ extern "C" {
 #define ZAHRUBEL_MODEL_WORDS 32
 /* A frame has 1 to this many words. */
 #define ZAHRUBEL_LONGEST_FRAME 4096
+/* A line has at most this many digits, eight a word. */
+#define ZAHRUBEL_MOST_DIGITS 32768
+/* An answer to a line has code, detail and the end of the line; after an accepted SAT, eight bytes more for each true variable. */
+#define ZAHRUBEL_SHORTEST_ANSWER 17
+#define ZAHRUBEL_LONGEST_ANSWER 16401
+/* No call takes more stack. A thread under musl has less by default. */
+#define ZAHRUBEL_STACK_BYTES 196608
+
+/* Word 0 of a frame. */
+enum zahrubel_operation {
+    ZAHRUBEL_ADD = 1,
+    ZAHRUBEL_LEARN = 2,
+    ZAHRUBEL_FORGET = 3,
+    ZAHRUBEL_PROMOTE = 4,
+    ZAHRUBEL_DROP = 5,
+    ZAHRUBEL_WEAKEN = 6,
+    ZAHRUBEL_RESTORE = 7,
+    ZAHRUBEL_SAT = 8,
+    ZAHRUBEL_UNSAT = 9
+};
+
+/* The code of an answer, and what its detail is. */
+enum zahrubel_code {
+    ZAHRUBEL_ACCEPTED = 0,          /* after SAT the number of variables changed, else 0 */
+    ZAHRUBEL_NO_STATE = 1,          /* the tables are no state, or a lent size is out of range: 0 */
+    ZAHRUBEL_NO_FRAME = 2,          /* empty, too long, unknown operation, wrong count, an id that is not positive: 0 */
+    ZAHRUBEL_BAD_LITERAL = 3,       /* a literal or variable out of range or repeated, true variables that do not rise: index of the first such word */
+    ZAHRUBEL_BAD_ID = 4,            /* not new, or names no clause of that place: the id */
+    ZAHRUBEL_NOT_CLEAN = 5,         /* id of the topmost offending record */
+    ZAHRUBEL_BAD_WITNESS = 6,       /* it has no literal of the clause: 0 */
+    ZAHRUBEL_BAD_HINT = 7,          /* its word index */
+    ZAHRUBEL_HINTS_USED_UP = 8,     /* in WEAKEN the id of the clause whose group it is, else 0 */
+    ZAHRUBEL_BAD_GROUP = 9,         /* missing or wrong: index of that word */
+    ZAHRUBEL_FALSE_CLAUSE = 10,     /* the model falsifies an irredundant clause: the least such id */
+    ZAHRUBEL_FALSE_ASSUMPTION = 11, /* the model falsifies it: its word index */
+    ZAHRUBEL_NO_ENTRY = 12,         /* none is free: 0 */
+    ZAHRUBEL_NO_WORDS = 13          /* not enough literal words are free: 0 */
+};
 
 /* The place of a clause. Any other number is no state. */
 #define ZAHRUBEL_IRREDUNDANT 0
@@ -53,10 +126,30 @@ struct zahrubel_carried {
     uint32_t stack[ZAHRUBEL_MOST_ENTRIES];
 };
 
-/* Code 0 is an acceptance, 1 to 13 are refusals. */
+/* One of the codes above, 0 for an acceptance and 1 to 13 for a refusal, and its detail. */
 struct zahrubel_answer {
     uint64_t code;
     uint64_t detail;
+};
+
+/* What is read of a line that is not closed yet; all zero: nothing. The words of the line lie in the frame buffer, so both go from call to call.
+ * `spoilt` is 0 for no and anything else for yes, and is written back as 0 or 1. */
+struct zahrubel_reader {
+    uint64_t digits;
+    uint64_t word;
+    uint64_t spoilt;
+};
+
+/* How many bytes of a part were taken, and how many bytes of answers stand in the out buffer. */
+struct zahrubel_given {
+    uint64_t taken;
+    uint64_t written;
+};
+
+/* Some words of the pool, where they lie: `length` of them, from `pool + start` on. They are inside the pool, whatever the entry says. */
+struct zahrubel_part {
+    uint64_t start;
+    uint64_t length;
 };
 
 /* Opens for the variables 1 to `vars`. Of the tables only their sizes matter. Accepted, `carried` is the empty state, whatever the tables hold;
@@ -64,10 +157,28 @@ struct zahrubel_answer {
 struct zahrubel_answer zahrubel_open(uint32_t vars, const struct zahrubel_entry *entries, size_t entry_count, const int32_t *pool,
                                      size_t pool_words, struct zahrubel_carried *carried);
 
-/* Judges one frame and, if it is accepted, does what it says. */
+/* Judges one frame and, if it is accepted, does what it says. A model buffer of another size than ZAHRUBEL_MODEL_WORDS is refused 1, whatever the frame. */
 struct zahrubel_answer zahrubel_step(struct zahrubel_entry *entries, size_t entry_count, int32_t *pool, size_t pool_words,
                                      struct zahrubel_carried *carried, const int32_t *frame, size_t frame_words, uint64_t *model,
                                      size_t model_words);
+
+/* Gives a part of the line input, of any bytes, some or none. It takes as many of them as the out buffer has room for the answers to: before each
+ * byte taken there was room for one more longest answer. The answers to the lines closed stand in the out buffer; bytes behind them stay. Code 0;
+ * or 1 where the tables are no state, lent sizes are out of range, the reader has more than ZAHRUBEL_MOST_DIGITS digits, the frame buffer has fewer
+ * than ZAHRUBEL_LONGEST_FRAME words or the out buffer fewer than ZAHRUBEL_LONGEST_ANSWER bytes: then nothing is taken and nothing is written. Where
+ * no line of the bytes taken was an accepted change, entries, pool and what is carried stay word for word. */
+struct zahrubel_answer zahrubel_give(struct zahrubel_entry *entries, size_t entry_count, int32_t *pool, size_t pool_words,
+                                     struct zahrubel_carried *carried, struct zahrubel_reader *reader, int32_t *frame, size_t frame_words,
+                                     const uint8_t *part, size_t part_bytes, uint8_t *out, size_t out_bytes, struct zahrubel_given *given);
+
+/* The end of the line input: a line that is begun and not closed is answered 2. `written` is the number of bytes written. Code 0; or 1 where the
+ * reader has more than ZAHRUBEL_MOST_DIGITS digits or the out buffer fewer than ZAHRUBEL_SHORTEST_ANSWER bytes: then nothing is written. */
+struct zahrubel_answer zahrubel_end(const struct zahrubel_reader *reader, uint8_t *out, size_t out_bytes, uint64_t *written);
+
+/* The literals of the clause that entry i holds, and of its witness: a part of the pool, no copy. Past the table's end there is no word, past the
+ * pool's end what there is of it. */
+struct zahrubel_part zahrubel_clause(const struct zahrubel_entry *entries, size_t entry_count, const int32_t *pool, size_t pool_words, size_t i);
+struct zahrubel_part zahrubel_witness(const struct zahrubel_entry *entries, size_t entry_count, const int32_t *pool, size_t pool_words, size_t i);
 
 #ifdef __cplusplus
 }

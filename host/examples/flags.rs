@@ -1,65 +1,61 @@
 //! A bureau that masks CPU flags for guests: its rules are clauses, a toy solver drops one of
 //! them and answers for host after host, and the checker says what a guest may see.
 
-use std::process::ExitCode;
-use zahrubel::{Answer, Session};
+use std::error::Error;
+use zahrubel::{ClauseId, Frame, Literal, Session, Variable};
 
 /// The flags, as variables 1 to 6.
-const FLAGS: [&str; 6] = ["sse2", "xsave", "avx", "avx2", "avx512f", "fma"];
-const XSAVE: i32 = 2;
-const AVX: i32 = 3;
-const AVX2: i32 = 4;
-const AVX512F: i32 = 5;
-const FMA: i32 = 6;
+const NAMES: [&str; 6] = ["sse2", "xsave", "avx", "avx2", "avx512f", "fma"];
+const XSAVE: Variable = flag(2);
+const AVX: Variable = flag(3);
+const AVX2: Variable = flag(4);
+const AVX512F: Variable = flag(5);
+const FMA: Variable = flag(6);
 
 /// What a flag needs: the rule's id, the flag, and the flag without which it must not be shown.
-const RULES: [(i32, i32, i32); 4] = [
-    (1, AVX, XSAVE),
-    (2, AVX2, AVX),
-    (3, AVX512F, AVX2),
-    (4, FMA, AVX),
+const RULES: [(ClauseId, Variable, Variable); 4] = [
+    (rule(1), AVX, XSAVE),
+    (rule(2), AVX2, AVX),
+    (rule(3), AVX512F, AVX2),
+    (rule(4), FMA, AVX),
 ];
 
 /// The rule that the solver works without.
-const DROPPED: i32 = 3;
+const DROPPED: ClauseId = rule(3);
 
 /// Hosts, by the flags that they lack.
-const HOSTS: [(&str, &[i32]); 3] = [
+const HOSTS: [(&str, &[Variable]); 3] = [
     ("lacks nothing", &[]),
     ("lacks avx2", &[AVX2]),
     ("lacks avx", &[AVX]),
 ];
 
-fn main() -> ExitCode {
-    match tell() {
-        Ok(()) => ExitCode::SUCCESS,
-        Err((step, answer)) => {
-            println!("{step}: refused {}, detail {}", answer.code, answer.detail);
-            ExitCode::FAILURE
-        }
+/// For constants: a number out of range does not compile.
+const fn flag(number: u32) -> Variable {
+    match Variable::new(number) {
+        Ok(flag) => flag,
+        Err(_) => panic!("no variable"),
     }
 }
 
-/// A refusal that the bureau did not count on, with what it was doing.
-type Refused = (&'static str, Answer);
-
-fn accepted(step: &'static str, answer: Answer) -> Result<Answer, Refused> {
-    if answer.is_accepted() {
-        Ok(answer)
-    } else {
-        Err((step, answer))
+const fn rule(number: u32) -> ClauseId {
+    match ClauseId::new(number) {
+        Ok(id) => id,
+        Err(_) => panic!("no id"),
     }
 }
 
-fn tell() -> Result<(), Refused> {
-    let opened = Session::open(FLAGS.len() as u32, 16, 64);
-    let mut session = opened.map_err(|answer| ("open", answer))?;
+fn main() -> Result<(), Box<dyn Error>> {
+    let mut session = Session::open(NAMES.len() as u32, 16, 64)?;
     for (id, flag, needed) in RULES {
-        accepted("add a rule", session.say(&[1, id, -flag, needed]))?;
+        session
+            .say(&Frame::add(id, &[-flag, needed.positive()])?)
+            .accepted()?;
     }
-    // WEAKEN: wherever avx2 is missing, hiding avx512f makes the rule true. No rule holds
-    // avx512f itself, so no other clause needs a group.
-    accepted("weaken", session.say(&[6, DROPPED, 1, -AVX512F]))?;
+    // Wherever avx2 is missing, hiding avx512f makes the rule true. No rule holds avx512f itself,
+    // so no other clause needs a group.
+    let weaken = Frame::weaken(DROPPED, &[-AVX512F]).frame()?;
+    session.say(&weaken).accepted()?;
     for (host, lacking) in HOSTS {
         show(&mut session, host, lacking)?;
     }
@@ -67,28 +63,24 @@ fn tell() -> Result<(), Refused> {
 }
 
 /// SAT for a host: what it lacks is assumed false; the offered model is the solver's.
-fn show(session: &mut Session, host: &str, lacking: &[i32]) -> Result<(), Refused> {
+fn show(session: &mut Session, host: &str, lacking: &[Variable]) -> Result<(), Box<dyn Error>> {
     let offered = offer(lacking);
-    let mut frame = vec![8, lacking.len() as i32];
-    frame.extend(lacking.iter().map(|flag| -flag));
-    frame.extend(&offered);
-    let answer = accepted("answer for a host", session.say(&frame))?;
+    let assumed: Vec<Literal> = lacking.iter().map(|&flag| -flag).collect();
+    let mended = session.say(&Frame::sat(&assumed, &offered)?).accepted()?;
     println!("host that {host}");
-    println!(
-        "  offered by the solver: {}",
-        names(|flag| offered.contains(&flag))
-    );
-    println!(
-        "  a guest may see:       {}",
-        names(|flag| session.is_true(flag as u32))
-    );
-    println!("  flags mended:          {}", answer.detail);
+    println!("  offered by the solver: {}", names(offered));
+    println!("  a guest may see:       {}", names(session.model()));
+    println!("  flags mended:          {mended}");
     Ok(())
 }
 
+fn all_flags() -> impl Iterator<Item = Variable> {
+    (1..=NAMES.len() as u32).map(flag)
+}
+
 /// The toy solver: every flag that the host has, less those that break a rule it still knows.
-fn offer(lacking: &[i32]) -> Vec<i32> {
-    let mut shown: Vec<i32> = (1..=FLAGS.len() as i32).collect();
+fn offer(lacking: &[Variable]) -> Vec<Variable> {
+    let mut shown: Vec<Variable> = all_flags().collect();
     shown.retain(|flag| !lacking.contains(flag));
     let known = RULES.iter().filter(|(id, ..)| *id != DROPPED);
     for &(_, flag, needed) in known {
@@ -99,29 +91,27 @@ fn offer(lacking: &[i32]) -> Vec<i32> {
     shown
 }
 
-fn names(is_shown: impl Fn(i32) -> bool) -> String {
-    let shown = (1..).zip(FLAGS).filter(|&(flag, _)| is_shown(flag));
-    let names: Vec<&str> = shown.map(|(_, name)| name).collect();
+fn names(shown: impl IntoIterator<Item = Variable>) -> String {
+    let name = |flag: Variable| NAMES[flag.number() as usize - 1];
+    let names: Vec<&str> = shown.into_iter().map(name).collect();
     names.join(" ")
 }
 
 /// A guest that insists on avx512f: the mend might hide it, so the answer is refused until the
 /// rule is restored; on a host without avx2 there is then no answer at all.
-fn demand_avx512f(session: &mut Session) -> Result<(), Refused> {
-    let demand = [8, 1, AVX512F, 1, XSAVE, AVX, AVX2, AVX512F, FMA];
+fn demand_avx512f(session: &mut Session) -> Result<(), Box<dyn Error>> {
+    let all: Vec<Variable> = all_flags().collect();
+    let demand = Frame::sat(&[AVX512F.positive()], &all)?;
     let answer = session.say(&demand);
     println!("guest that insists on avx512f");
-    println!(
-        "  while the rule is dropped: refused {}, record {}",
-        answer.code, answer.detail
-    );
-    accepted("restore", session.say(&[7, DROPPED]))?;
-    accepted("answer after restoring", session.say(&demand))?;
-    println!(
-        "  after restoring it:        {}",
-        names(|flag| session.is_true(flag as u32))
-    );
-    accepted("unsat", session.say(&[9, 2, AVX512F, -AVX2, DROPPED]))?;
+    println!("  while the rule is dropped: {answer}");
+    session.say(&Frame::restore(DROPPED)).accepted()?;
+    session.say(&demand).accepted()?;
+    println!("  after restoring it:        {}", names(session.model()));
+    let lacking = [AVX512F.positive(), -AVX2];
+    session
+        .say(&Frame::unsat(&lacking, &[DROPPED])?)
+        .accepted()?;
     println!("  where avx2 is lacking:     no");
     Ok(())
 }

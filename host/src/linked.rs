@@ -1,6 +1,13 @@
 //! The archive's functions, as `include/zahrubel.h` declares them.
 
-use crate::{Answer, Carried, Entry};
+use crate::{Answer, Carried, Entry, Given, Reader};
+
+/// Where a part of a pool lies.
+#[repr(C)]
+pub struct Part {
+    pub start: u64,
+    pub length: u64,
+}
 
 extern "C" {
     pub fn zahrubel_open(
@@ -23,4 +30,43 @@ extern "C" {
         model: *mut u64,
         model_words: usize,
     ) -> Answer;
+
+    pub fn zahrubel_give(
+        entries: *mut Entry,
+        entry_count: usize,
+        pool: *mut i32,
+        pool_words: usize,
+        carried: *mut Carried,
+        reader: *mut Reader,
+        frame: *mut i32,
+        frame_words: usize,
+        part: *const u8,
+        part_bytes: usize,
+        out: *mut u8,
+        out_bytes: usize,
+        given: *mut Given,
+    ) -> Answer;
+
+    pub fn zahrubel_end(
+        reader: *const Reader,
+        out: *mut u8,
+        out_bytes: usize,
+        written: *mut u64,
+    ) -> Answer;
+
+    pub fn zahrubel_clause(
+        entries: *const Entry,
+        entry_count: usize,
+        pool: *const i32,
+        pool_words: usize,
+        i: usize,
+    ) -> Part;
+
+    pub fn zahrubel_witness(
+        entries: *const Entry,
+        entry_count: usize,
+        pool: *const i32,
+        pool_words: usize,
+        i: usize,
+    ) -> Part;
 }

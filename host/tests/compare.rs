@@ -1,11 +1,12 @@
 //! Tens of thousands of calls through the archive, each compared with the second implementation:
-//! answer, state spelled afterwards, buffer, and every word where nothing may be written.
+//! answer, state spelled and line begun afterwards, buffers, where a clause lies, and every word
+//! where nothing may be written.
 
 mod common;
 
 use common::Linked;
 use second::lent::damage::DAMAGES;
-use second::lent::run::{run, Tally};
+use second::lent::run::{run, Tally, OUTCOMES};
 
 #[test]
 fn the_archive_and_the_second_agree() {
@@ -15,8 +16,14 @@ fn the_archive_and_the_second_agree() {
             panic!("seed {seed}\n{difference}\n{tally}");
         }
     }
-    assert!(tally.calls > 40_000, "{tally}");
+    assert!(tally.calls > 80_000, "{tally}");
     for (name, _) in DAMAGES {
-        assert!(tally.wrong.contains_key(name), "never tried: {name}");
+        for call in ["step", "give", "clause and witness"] {
+            let tried = tally.wrong.contains_key(&(call, name));
+            assert!(tried, "never tried: {call}, {name}");
+        }
+    }
+    for name in OUTCOMES {
+        assert!(tally.outcomes[name] > 0, "never: {name}");
     }
 }

@@ -1,4 +1,4 @@
-/* The header as a C host uses it: its layout, and document 01's worked example. */
+/* The header as a C host uses it: its layout, and document 01's worked example, by frames and by lines. */
 #include <assert.h>
 #include <stdio.h>
 #include <string.h>
@@ -10,6 +10,10 @@ _Static_assert(offsetof(struct zahrubel_entry, witness) == 16, "the fifth");
 _Static_assert(sizeof(struct zahrubel_carried) == 4 * 1029, "five words and the stack");
 _Static_assert(offsetof(struct zahrubel_carried, stack) == 20, "behind the five");
 _Static_assert(sizeof(struct zahrubel_answer) == 16, "two words of 64 bits");
+_Static_assert(sizeof(struct zahrubel_reader) == 24, "three words of 64 bits");
+_Static_assert(offsetof(struct zahrubel_reader, spoilt) == 16, "the third");
+_Static_assert(sizeof(struct zahrubel_given) == 16, "two words of 64 bits");
+_Static_assert(sizeof(struct zahrubel_part) == 16, "a start and a length");
 
 static struct zahrubel_entry entries[ZAHRUBEL_MOST_ENTRIES];
 static int32_t pool[ZAHRUBEL_MOST_WORDS];
@@ -28,10 +32,58 @@ static void say(const int32_t *frame, size_t words) {
         say(frame, sizeof frame / sizeof frame[0]);    \
     } while (0)
 
-int main(void) {
+static struct zahrubel_reader reader;
+static int32_t frame_words[ZAHRUBEL_LONGEST_FRAME];
+static uint8_t out[ZAHRUBEL_LONGEST_ANSWER];
+
+/* Gives all of a text, as far as there is room for answers each time. */
+static void give(const char *text) {
+    size_t bytes = strlen(text);
+    while (bytes > 0) {
+        struct zahrubel_given given;
+        struct zahrubel_answer answer =
+            zahrubel_give(entries, ZAHRUBEL_MOST_ENTRIES, pool, ZAHRUBEL_MOST_WORDS, &carried, &reader, frame_words, ZAHRUBEL_LONGEST_FRAME,
+                          (const uint8_t *)text, bytes, out, sizeof out, &given);
+        assert(answer.code == ZAHRUBEL_ACCEPTED);
+        fwrite(out, 1, (size_t)given.written, stdout);
+        text += given.taken;
+        bytes -= (size_t)given.taken;
+    }
+}
+
+static void end(void) {
+    uint64_t written;
+    struct zahrubel_answer answer = zahrubel_end(&reader, out, sizeof out, &written);
+    assert(answer.code == ZAHRUBEL_ACCEPTED);
+    fwrite(out, 1, (size_t)written, stdout);
+}
+
+static void show(const char *name, struct zahrubel_part part) {
+    printf("%s", name);
+    for (size_t i = 0; i < part.length; i++)
+        printf(" %d", (int)pool[part.start + i]);
+    printf("\n");
+}
+
+static void open_all(void) {
     struct zahrubel_answer opened =
         zahrubel_open(ZAHRUBEL_MOST_VARIABLES, entries, ZAHRUBEL_MOST_ENTRIES, pool, ZAHRUBEL_MOST_WORDS, &carried);
     printf("%d %d\n", (int)opened.code, (int)opened.detail);
+}
+
+/* The same by lines, cut within a word, with one more line that is never closed. */
+static void by_lines(void) {
+    open_all();
+    give("00000001000000010000000100000002\n000000060000000100");
+    give("00000100000001\n");
+    show("clause", zahrubel_clause(entries, ZAHRUBEL_MOST_ENTRIES, pool, ZAHRUBEL_MOST_WORDS, 0));
+    show("witness", zahrubel_witness(entries, ZAHRUBEL_MOST_ENTRIES, pool, ZAHRUBEL_MOST_WORDS, 0));
+    give("0000000800000000\n0000000100000002ffffffff\n0000000700000001\n0000000100000002ffffffff\n00");
+    end();
+}
+
+int main(void) {
+    open_all();
     SAY(1, 1, 1, 2);
     SAY(6, 1, 1, 1);
     SAY(8, 0);
@@ -39,5 +91,6 @@ int main(void) {
     SAY(1, 2, -1);
     SAY(7, 1);
     SAY(1, 2, -1);
+    by_lines();
     return 0;
 }

@@ -1,7 +1,7 @@
 //! The layout that the archive, the header and this crate must agree on.
 
 use std::mem::{align_of, offset_of, size_of};
-use zahrubel::{Answer, Carried, Entry};
+use zahrubel::{Answer, Carried, Entry, Given, Reader};
 
 #[test]
 fn an_entry_is_five_words() {
@@ -39,6 +39,26 @@ fn an_answer_is_two_words_of_64_bits() {
     assert_eq!((size_of::<Answer>(), align_of::<Answer>()), (16, 8));
     assert_eq!(
         (offset_of!(Answer, code), offset_of!(Answer, detail)),
+        (0, 8)
+    );
+}
+
+#[test]
+fn a_reader_is_three_words_of_64_bits() {
+    assert_eq!((size_of::<Reader>(), align_of::<Reader>()), (24, 8));
+    let offsets = [
+        offset_of!(Reader, digits),
+        offset_of!(Reader, word),
+        offset_of!(Reader, spoilt),
+    ];
+    assert_eq!(offsets, [0, 8, 16]);
+}
+
+#[test]
+fn what_is_given_is_two_words_of_64_bits() {
+    assert_eq!((size_of::<Given>(), align_of::<Given>()), (16, 8));
+    assert_eq!(
+        (offset_of!(Given, taken), offset_of!(Given, written)),
         (0, 8)
     );
 }

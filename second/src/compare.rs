@@ -6,6 +6,10 @@ use std::fmt;
 use std::io::{self, Read, Write};
 use std::process::{Child, Command, ExitStatus, Stdio};
 use std::thread;
+use std::time::{Duration, Instant};
+
+/// No program that is started here may run longer.
+pub const TIME_LIMIT: Duration = Duration::from_secs(600);
 
 /// The first line on which two programs differ.
 #[derive(Clone, Debug, PartialEq, Eq)]
@@ -60,6 +64,16 @@ pub struct Run {
 
 /// Feeds the input to a program; of its output at most `most` bytes are read.
 pub fn run_program(command: &[String], input: Vec<u8>, most: usize) -> io::Result<Run> {
+    run_program_within(TIME_LIMIT, command, input, most)
+}
+
+/// The same under another time limit; a program that exceeds it is ended, and that is an error.
+pub fn run_program_within(
+    limit: Duration,
+    command: &[String],
+    input: Vec<u8>,
+    most: usize,
+) -> io::Result<Run> {
     let (program, arguments) = command
         .split_first()
         .ok_or_else(|| io::Error::new(io::ErrorKind::InvalidInput, "no program"))?;
@@ -68,22 +82,43 @@ pub fn run_program(command: &[String], input: Vec<u8>, most: usize) -> io::Resul
         .stdin(Stdio::piped())
         .stdout(Stdio::piped())
         .spawn()?;
-    let output = talk(&mut child, input, most);
-    let status = child.wait()?;
-    output.map(|output| Run { output, status })
-}
-
-/// Writes from a thread of its own, so that neither side waits for the other's pipe.
-fn talk(child: &mut Child, input: Vec<u8>, most: usize) -> io::Result<Vec<u8>> {
     let (Some(mut stdin), Some(stdout)) = (child.stdin.take(), child.stdout.take()) else {
         return Err(io::Error::other("the program has no pipes"));
     };
-    // A program that ends early closes its pipe; what it has answered is compared all the same.
+    // A pipe has a thread of its own, so that neither side waits for the other's. A program that ends early closes its pipe;
+    // what it has answered is compared all the same.
     let writer = thread::spawn(move || drop(stdin.write_all(&input)));
-    let mut output = Vec::new();
-    let read = stdout.take(most as u64).read_to_end(&mut output);
-    match writer.join() {
-        Ok(()) => read.map(|_| output),
-        Err(_) => Err(io::Error::other("the writer failed")),
+    let reader = thread::spawn(move || {
+        let mut output = Vec::new();
+        let read = stdout.take(most as u64).read_to_end(&mut output);
+        read.map(|_| output)
+    });
+    // Of a program that was ended here a child may still hold the pipes, so nobody waits for their threads.
+    let status = ended_within(limit, &mut child)?;
+    let failed = |_| io::Error::other("a pipe's thread failed");
+    writer.join().map_err(failed)?;
+    let output = reader.join().map_err(failed)?;
+    Ok(Run {
+        status,
+        output: output?,
+    })
+}
+
+/// How a program ended, or that it was ended here.
+fn ended_within(limit: Duration, child: &mut Child) -> io::Result<ExitStatus> {
+    let began = Instant::now();
+    loop {
+        if let Some(status) = child.try_wait()? {
+            return Ok(status);
+        }
+        if began.elapsed() > limit {
+            child.kill()?;
+            child.wait()?;
+            return Err(io::Error::new(
+                io::ErrorKind::TimedOut,
+                "the program took too long",
+            ));
+        }
+        thread::sleep(Duration::from_millis(1));
     }
 }

@@ -10,6 +10,7 @@ pub mod histogram;
 pub mod judge;
 pub mod lent;
 pub mod lines;
+pub mod progress;
 pub mod propagation;
 pub mod random;
 pub mod search;

@@ -9,9 +9,13 @@ use crate::terms::{LONGEST_FRAME, MOST_ENTRIES, MOST_VARIABLES, MOST_WORDS};
 use std::io::{self, BufWriter, Read, Write};
 
 /// "eight lowercase hexadecimal digits a word"
-const DIGITS: usize = 8;
+pub const DIGITS: usize = 8;
 /// "over 32,768 digits ... is refused"
 pub const MOST_DIGITS: usize = LONGEST_FRAME * DIGITS;
+/// Code, detail and the closing 0A.
+pub const SHORTEST_ANSWER: usize = 2 * DIGITS + 1;
+/// An accepted SAT has the true variables between them: at most all.
+pub const LONGEST_ANSWER: usize = SHORTEST_ANSWER + MOST_VARIABLES as usize * DIGITS;
 /// How much the program reads at once.
 const PART: usize = 64 * 1024;
 
@@ -59,12 +63,26 @@ pub struct Lines<C> {
 
 impl<C: Checks> Lines<C> {
     pub fn new(checker: C) -> Lines<C> {
+        Lines::within(checker, Vec::new())
+    }
+
+    /// Goes on within a line, which has begun and is not closed yet.
+    pub fn within(checker: C, line: Vec<u8>) -> Lines<C> {
         Lines {
             checker,
-            line: Vec::new(),
+            line,
             frame: Vec::new(),
             answer: Vec::new(),
         }
+    }
+
+    pub fn checker(&self) -> &C {
+        &self.checker
+    }
+
+    /// What is held of the line that is not closed yet.
+    pub fn unclosed(&self) -> &[u8] {
+        &self.line
     }
 
     /// Takes the next part of the input and answers each line that it closes.
@@ -106,18 +124,22 @@ impl<C: Checks> Lines<C> {
         self.write(&answer, output)
     }
 
-    /// "it writes code and detail in the same form; after an accepted SAT the true variables
-    /// follow, rising"
     fn write(&mut self, answer: &Answer, output: &mut impl Write) -> io::Result<()> {
         self.answer.clear();
-        write_word(answer.code, &mut self.answer);
-        write_word(answer.detail, &mut self.answer);
-        for &variable in answer.model.iter().flatten() {
-            write_word(variable as u32, &mut self.answer);
-        }
-        self.answer.push(b'\n');
+        write_answer(answer, &mut self.answer);
         output.write_all(&self.answer)
     }
+}
+
+/// "it writes code and detail in the same form; after an accepted SAT the true variables
+/// follow, rising"
+pub fn write_answer(answer: &Answer, line: &mut Vec<u8>) {
+    write_word(answer.code, line);
+    write_word(answer.detail, line);
+    for &variable in answer.model.iter().flatten() {
+        write_word(variable as u32, line);
+    }
+    line.push(b'\n');
 }
 
 /// Reads a line without its 0A into words, unless it has "any other byte, a length not a
@@ -138,15 +160,27 @@ pub fn read_words(line: &[u8], words: &mut Vec<i32>) -> Option<()> {
 fn read_word(digits: &[u8]) -> Option<i32> {
     let mut word = 0u32;
     for &digit in digits {
-        let value = match digit {
-            b'0'..=b'9' => digit - b'0',
-            b'a'..=b'f' => digit - b'a' + 10,
-            _ => return None,
-        };
-        word = word << 4 | u32::from(value);
+        word = word << 4 | u32::from(digit_value(digit)?);
     }
     // "each 32 bits, two's complement"
     Some(word as i32)
+}
+
+/// What a lowercase digit counts; any other byte is none.
+pub fn digit_value(byte: u8) -> Option<u8> {
+    match byte {
+        b'0'..=b'9' => Some(byte - b'0'),
+        b'a'..=b'f' => Some(byte - b'a' + 10),
+        _ => None,
+    }
+}
+
+/// Writes a frame as a closed line.
+pub fn write_frame(frame: &[i32], line: &mut Vec<u8>) {
+    for &word in frame {
+        write_word(word as u32, line);
+    }
+    line.push(b'\n');
 }
 
 /// Writes a word as eight digits.

@@ -1,6 +1,6 @@
 //! Comparing with another program.
 
-use second::compare::{first_difference, run_program};
+use second::compare::{first_difference, run_program, run_program_within};
 use second::lines::answers;
 use second::traces::CLASSES;
 
@@ -42,4 +42,14 @@ fn a_missing_program_is_an_error() {
     let missing = vec!["./no-such-program".to_string()];
     assert!(run_program(&missing, Vec::new(), 100).is_err());
     assert!(run_program(&[], Vec::new(), 100).is_err());
+}
+
+#[test]
+fn a_program_that_takes_too_long_is_ended() {
+    let sleeper = ["sleep".to_string(), "60".to_string()];
+    let began = std::time::Instant::now();
+    let limit = std::time::Duration::from_millis(50);
+    let error = run_program_within(limit, &sleeper, Vec::new(), 100).unwrap_err();
+    assert_eq!(error.kind(), std::io::ErrorKind::TimedOut);
+    assert!(began.elapsed() < std::time::Duration::from_secs(30));
 }

@@ -2,18 +2,19 @@
 
 mod common;
 
-use common::reachable;
+use common::{entry, reachable};
 use second::frames::{add, weaken};
 use second::histogram::ROWS;
+use second::lent::buffers::{Buffers, Given, Reader};
 use second::lent::calls::{Calls, Numbers};
 use second::lent::damage::DAMAGES;
 use second::lent::expected::expect_step;
 use second::lent::laying::lay;
 use second::lent::mock::Mock;
 use second::lent::reading::state_of;
-use second::lent::run::{run, Tally};
+use second::lent::run::{run, Tally, MISFITS, OUTCOMES};
 use second::lent::states::{any_state, reached};
-use second::lent::tables::{Carried, Entry, Tables};
+use second::lent::tables::{Carried, Tables};
 use second::random::Random;
 use second::state::State;
 use std::collections::BTreeMap;
@@ -24,13 +25,6 @@ fn read(tables: &Tables) -> Option<State> {
 
 /// Clause 5 (1 -2) irredundant, 3 (2 3) stacked with witness (3), in a pool of six words.
 fn small() -> Tables {
-    let entry = |id, place, start, length, witness| Entry {
-        id,
-        place,
-        start,
-        length,
-        witness,
-    };
     let mut carried = Carried {
         vars: 3,
         highest: 5,
@@ -42,9 +36,9 @@ fn small() -> Tables {
     carried.stack[0] = 3;
     Tables {
         entries: vec![
-            entry(5, 0, 4, 2, 0),
-            entry(3, 2, 0, 2, 1),
-            entry(7, 7, 7, 7, 7),
+            entry([5, 0, 4, 2, 0]),
+            entry([3, 2, 0, 2, 1]),
+            entry([7, 7, 7, 7, 7]),
         ],
         pool: vec![2, 3, 3, 77, 1, -2],
         carried,
@@ -65,13 +59,7 @@ fn tables_are_read_where_they_lie() {
 #[test]
 fn an_entry_without_words_may_start_anywhere() {
     let mut tables = small();
-    tables.entries[2] = Entry {
-        id: 4,
-        place: 1,
-        start: u32::MAX,
-        length: 0,
-        witness: 0,
-    };
+    tables.entries[2] = entry([4, 1, u32::MAX, 0, 0]);
     tables.carried.count = 3;
     assert_eq!(read(&tables).unwrap().learned[&4], []);
     tables.entries[2].start = 1;
@@ -138,16 +126,29 @@ fn the_run_finds_nothing_in_the_second_itself() {
     }
     assert!(tally.calls > 20_000, "{tally}");
     for (name, _) in DAMAGES {
-        assert!(
-            tally.wrong.contains_key(name),
-            "never tried: {name}\n{tally}"
-        );
+        for call in ["step", "give", "clause and witness"] {
+            let tried = tally.wrong.contains_key(&(call, name));
+            assert!(tried, "never tried: {call}, {name}\n{tally}");
+        }
     }
     for asked in ROWS.into_iter().take(10) {
         for &code in [1].iter().chain(reachable(asked)) {
-            let times = tally.codes.times(asked, code);
+            let times = tally.frames.times(asked, code);
             assert!(times > 0, "{asked} never got {code}\n{tally}");
         }
+    }
+    for asked in ROWS {
+        for &code in reachable(asked) {
+            let times = tally.lines.times(asked, code);
+            assert!(times > 0, "a line {asked} never got {code}\n{tally}");
+        }
+    }
+    for name in OUTCOMES {
+        assert!(tally.outcomes[name] > 0, "never: {name}\n{tally}");
+    }
+    for (name, _) in MISFITS {
+        let tried = tally.wrong.contains_key(&("give", name));
+        assert!(tried, "never tried: {name}\n{tally}");
     }
 }
 
@@ -180,6 +181,27 @@ impl Calls for Faulty {
             numbers,
         };
         (self.fault)(&left, tables, model).unwrap_or(numbers)
+    }
+
+    fn give(
+        &mut self,
+        tables: &mut Tables,
+        buffers: &mut Buffers,
+        part: &[u8],
+    ) -> (Numbers, Given) {
+        self.mock.give(tables, buffers, part)
+    }
+
+    fn end(&mut self, reader: &Reader, out: &mut [u8]) -> (Numbers, u64) {
+        self.mock.end(reader, out)
+    }
+
+    fn clause<'t>(&mut self, tables: &'t Tables, entry: usize) -> &'t [i32] {
+        self.mock.clause(tables, entry)
+    }
+
+    fn witness<'t>(&mut self, tables: &'t Tables, entry: usize) -> &'t [i32] {
+        self.mock.witness(tables, entry)
     }
 }
 

@@ -8,12 +8,11 @@ use native.Mathlib.Omega.{arith}
 use lib.Dec.{eqb, ltb, leb}
 use lib.IntN.{ℤ}
 use borrow.Author.Tests.{ltb-true, leb-true, eqb-true, lt-ltb, le-leb, eq-eqb, ne-eqb}
-use Rattle.rules.specs.Lists.{all}
 use Rattle.rules.specs.Terms.{is-clause, is-witness, null, Held, is-plain, is-record}
 use Rattle.rules.proofs.Lists.{by-cases, true-false, and-left, and-right, and-both, or-right}
 use Rattle.table.specs.Facts.{All, none, both, Pairs, total}
-use Rattle.table.specs.Spelled.{Row, id-of, place-of, start-of, size, held, stands, Known, Inside, Clear, Lawful, Rising, gone-one}
-use Rattle.lent.proofs.Tests.{or-fact, or-test, all-fact, two-fact, two-test}
+use Rattle.table.specs.Spelled.{Row, id-of, start-of, size, stands, Known, Inside, Clear, Lawful, Rising, gone-one}
+use Rattle.lent.proofs.Tests.{or-fact, or-test, two-fact, two-test}
 use Rattle.lent.specs.State.{every-two, other-id, known, lawful, inside, clear}
 
 -- ---- "held ids are distinct": an earlier id is another
@@ -25,7 +24,10 @@ other-test r x h = let e = ne-eqb (id-of x) (id-of r) (λ (z : id-of x ≡ id-of
 
 module _ (highest : ℕ) (r : Row) where
   pub known-fact : known highest r ≡ true → Known highest r
-  known-fact h = (ltb-true 0 (id-of r) (and-left (ltb 0 (id-of r)) (leb (id-of r) highest) h), leb-true (id-of r) highest (and-right (ltb 0 (id-of r)) (leb (id-of r) highest) h))
+  known-fact h = (
+    ltb-true 0 (id-of r) (and-left (ltb 0 (id-of r)) (leb (id-of r) highest) h),
+    leb-true (id-of r) highest (and-right (ltb 0 (id-of r)) (leb (id-of r) highest) h),
+  )
 
   pub known-test : Known highest r → known highest r ≡ true
   known-test k = and-both (lt-ltb 0 (id-of r) (k .0)) (le-leb (id-of r) highest (k .1))
@@ -39,7 +41,8 @@ null-fact (l ∷ c) h = absurd (false≢true h)
 module _ (vars : ℕ) (h : Held) where
   plain-fact : is-plain vars h ≡ true → (is-clause vars (h .lits) ≡ true) × (h .witness ≡ [])
   unfolding is-plain
-  plain-fact t = (and-left (is-clause vars (h .lits)) (null (h .witness)) t, null-fact (h .witness) (and-right (is-clause vars (h .lits)) (null (h .witness)) t))
+  plain-fact t =
+      (and-left (is-clause vars (h .lits)) (null (h .witness)) t, null-fact (h .witness) (and-right (is-clause vars (h .lits)) (null (h .witness)) t))
 
   plain-test : (is-clause vars (h .lits) ≡ true) × (h .witness ≡ []) → is-plain vars h ≡ true
   unfolding is-plain
@@ -49,7 +52,10 @@ module _ (vars : ℕ) (h : Held) where
   unfolding lawful Lawful is-record
   lawful-fact zero t = plain-fact t
   lawful-fact (suc zero) t = plain-fact t
-  lawful-fact (suc (suc zero)) t = (and-left (is-clause vars (h .lits)) (is-witness vars (h .lits) (h .witness)) t, and-right (is-clause vars (h .lits)) (is-witness vars (h .lits) (h .witness)) t)
+  lawful-fact (suc (suc zero)) t = (
+    and-left (is-clause vars (h .lits)) (is-witness vars (h .lits) (h .witness)) t,
+    and-right (is-clause vars (h .lits)) (is-witness vars (h .lits) (h .witness)) t,
+  )
   lawful-fact (suc (suc (suc p))) t = absurd (false≢true t)
 
   -- a clause that is gone is none of the paper's
@@ -118,15 +124,6 @@ all-stay (both g a) = rw g (omega (arith, all-stay a))
 module _ (rows : List Row) where
   pub others-test : Rising rows → every-two other-id rows ≡ true
   others-test s = two-test (λ r x h. other-test r x h) s
-
-  pub knowns-fact : (highest : ℕ) → all (known highest) rows ≡ true → All (Known highest) rows
-  knowns-fact highest h = all-fact (known-fact highest) rows h
-
-  pub lawfuls-fact : (vars : ℕ) (pool : List ℤ) → all (λ r. lawful vars (place-of r) (held pool r)) rows ≡ true → All (λ r. Lawful vars (place-of r) (held pool r)) rows
-  lawfuls-fact vars pool h = all-fact (λ r t. lawful-fact vars (held pool r) (place-of r) t) rows h
-
-  pub insides-fact : (words : ℕ) → all (inside words) rows ≡ true → All (λ r. (size r ≡ 0) ⊎ Inside words r) rows
-  insides-fact words h = all-fact (inside-fact words) rows h
 
   pub clears-fact : every-two clear rows ≡ true → Pairs Clear rows
   clears-fact h = two-fact clear-fact rows h

@@ -8,36 +8,37 @@ use native.Mathlib.Omega.{arith}
 use lib.Dec.{eqb}
 use lib.IntN.{ℤ}
 use lib.ListN.{length, length-map, length-reverse}
-use borrow.Author.Tests.{ltb-true, lt-ltb, le-ltb, eqb-true, eqb-false, eq-eqb, ne-eqb}
-use Rattle.rules.specs.Lists.{any, all, only}
+use borrow.Author.Tests.{ltb-true, le-ltb, eqb-true, eqb-false, eq-eqb, ne-eqb}
+use Rattle.rules.specs.Lists.{any-passes, all-pass}
 use Rattle.rules.specs.Terms.{Held, has, fetch, rising}
 use Rattle.rules.specs.Frames.{without, place}
-use Rattle.rules.proofs.Lists.{by-cases, not-true, and-left, and-right, and-both, all-nil, all-cons, all-head}
+use Rattle.rules.proofs.Lists.{by-cases, not-true, and-left, and-right, and-both, all-head}
 use Rattle.rules.proofs.Held.{fetch-all}
 use Rattle.rules.proofs.Places.{later, length-without, rising-each, rising-without}
-use Rattle.table.specs.Facts.{All, none, both, Pairs, alone, ahead}
-use Rattle.table.specs.Spelled.{Row, id-of, held, stands, clauses, settled, Rising, Listed}
+use Rattle.table.specs.Facts.{All, both, Pairs, ahead}
+use Rattle.table.specs.Spelled.{Row, clauses, by-id, Rising, Listed}
 use Rattle.table.proofs.Facts.{all-unreverse, all-more, all-both, map-same}
 use Rattle.table.proofs.Places.{length-settled}
+use Rattle.table.proofs.Clauses.{clauses-rising}
 use Rattle.lent.specs.State.{every-two, lists}
 use Rattle.lent.proofs.Tests.{all-fact, all-test, two-fact, two-test, all-reverse, pairs-reverse}
 
 -- ---- clauses by rising id
 
 -- a clause before all others comes first
-place-first : (h : Held) (hs : List Held) → all (later h) hs ≡ true → place h hs ≡ h ∷ hs
+place-first : (h : Held) (hs : List Held) → all-pass (later h) hs ≡ true → place h hs ≡ h ∷ hs
 unfolding place
 place-first h [] a = refl
 place-first h (x ∷ hs) a = let l = all-head (later h) x hs a in rw l
 
 -- they are settled
-pub settled-rising : (hs : List Held) → rising hs ≡ true → settled hs ≡ hs
+pub settled-rising : (hs : List Held) → rising hs ≡ true → by-id hs ≡ hs
 settled-rising [] s = refl
 settled-rising (h ∷ hs) s = let t = rising-each h hs s in ap (place h) (settled-rising hs (t .1)) ∙ place-first h hs (t .0)
 
 -- what goes comes back to where it was
 place-back : (hs : List Held) (i : ℕ) → rising hs ≡ true → has hs i ≡ true → place (fetch hs i) (without hs i) ≡ hs
-unfolding any fetch place without
+unfolding any-passes fetch place without
 place-back [] i s m = absurd (false≢true m)
 place-back (h ∷ hs) i s m =
     let t = rising-each h hs s in
@@ -53,7 +54,7 @@ place-back (h ∷ hs) i s m =
 -- others are found as before
 module _ (i j : ℕ) (n : eqb i j ≡ false) where
   has-left : (hs : List Held) → has (without hs i) j ≡ has hs j
-  unfolding any without
+  unfolding any-passes without
   has-left [] = refl
   has-left (h ∷ hs) = by-cases (eqb (h .id) i)
       (λ e. let q = eqb-true (h .id) i e in rw (e, q, n))
@@ -66,23 +67,6 @@ module _ (i j : ℕ) (n : eqb i j ≡ false) where
       (λ e. let q = eqb-true (h .id) i e in rw (e, q, n))
       (λ e. let r = fetch-left hs in rw (e, r))
 
--- ---- the rows' clauses
-
-module _ (p : ℕ) (pool : List ℤ) where
-  clauses-all : {rows : List Row} (q : Held → Bool) → All (λ r. q (held pool r) ≡ true) rows → all q (clauses p pool rows) ≡ true
-  unfolding only
-  clauses-all q none = all-nil q
-  clauses-all q (both {x = r} {xs = rows} h a) = by-cases (stands p r)
-      (λ e. rw e (all-cons q (held pool r) (clauses p pool rows) h (clauses-all q a)))
-      (λ e. rw e (clauses-all q a))
-
-  pub clauses-rising : {rows : List Row} → Rising rows → rising (clauses p pool rows) ≡ true
-  unfolding only rising
-  clauses-rising alone = refl
-  clauses-rising (ahead {x = r} {xs = rows} a s) = by-cases (stands p r)
-      (λ e. rw e (and-both (clauses-all (later (held pool r)) (all-more (λ x l. lt-ltb (id-of r) (id-of x) l) a)) (clauses-rising s)))
-      (λ e. rw e (clauses-rising s))
-
 -- ---- the list
 
 -- no id twice
@@ -93,7 +77,8 @@ once-reverse : (ids : List ℕ) → Once ids → Once (reverse ids)
 once-reverse ids o = pairs-reverse (λ i j n z. n (sym z)) o
 
 -- as many ids as clauses, no id twice, each a clause's: they are the clauses
-listed-whole : (ids : List ℕ) (hs : List Held) → rising hs ≡ true → All (λ i. has hs i ≡ true) ids → Once ids → length ids ≡ length hs → settled (map (fetch hs) ids) ≡ hs
+listed-whole : (ids : List ℕ) (hs : List Held) → rising hs ≡ true → All (λ i. has hs i ≡ true) ids → Once ids → length ids ≡ length hs →
+    by-id (map (fetch hs) ids) ≡ hs
 listed-whole [] [] s m o n = refl
 listed-whole [] (h ∷ hs) s m o n = absurd (omega arith)
 listed-whole (i ∷ ids) hs s (both k m) (ahead d o) n =
@@ -101,11 +86,11 @@ listed-whole (i ∷ ids) hs s (both k m) (ahead d o) n =
     let each = all-both (λ j ne h. has-left i j (ne-eqb i j (λ z. ne (sym z))) hs ∙ h) d m in
     let same = map-same (all-more (λ j ne. sym (fetch-left i j (ne-eqb i j (λ z. ne (sym z))) hs)) d) in
     let rest = listed-whole ids gs (rising-without hs i s) each o (omega (arith, length-without i hs k)) in
-    ap (λ (l : List Held). place (fetch hs i) (settled l)) same ∙ ap (place (fetch hs i)) rest ∙ place-back hs i s k
+    ap (λ (l : List Held). place (fetch hs i) (by-id l)) same ∙ ap (place (fetch hs i)) rest ∙ place-back hs i s k
 
 module _ (ids : List ℕ) (stacked : List Held) where
   abbrev each-test : Bool
-  each-test = all (has stacked) ids
+  each-test = all-pass (has stacked) ids
 
   abbrev once-test : Bool
   once-test = every-two (λ i j. not (eqb j i)) ids
@@ -134,7 +119,9 @@ module _ (ids : List ℕ) (stacked : List Held) where
 
   -- as many ids as clauses
   pub listed-length : Listed stacked (reverse ids) → length ids ≡ length stacked
-  listed-length l = sym (length-reverse ids) ∙ sym (length-map (reverse ids) (fetch stacked)) ∙ sym (length-settled (map (fetch stacked) (reverse ids))) ∙ ap length (l .whole)
+  listed-length l =
+      sym (length-reverse ids) ∙ sym (length-map (reverse ids) (fetch stacked)) ∙ sym (length-settled (map (fetch stacked) (reverse ids)))
+      ∙ ap length (l .whole)
 
   pub lists-test : Listed stacked (reverse ids) → lists ids stacked ≡ true
   lists-test l =
@@ -142,5 +129,6 @@ module _ (ids : List ℕ) (stacked : List Held) where
       lists-all (all-unreverse ids (l .each)) (rw e at (once-reverse (reverse ids) (l .once))) (listed-length l)
 
 -- of rows by rising id
-pub stack-fact : (ids : List ℕ) (pool : List ℤ) (rows : List Row) → Rising rows → lists ids (clauses 2 pool rows) ≡ true → Listed (clauses 2 pool rows) (reverse ids)
+pub stack-fact : (ids : List ℕ) (pool : List ℤ) (rows : List Row) → Rising rows → lists ids (clauses 2 pool rows) ≡ true →
+    Listed (clauses 2 pool rows) (reverse ids)
 stack-fact ids pool rows s h = lists-fact ids (clauses 2 pool rows) (clauses-rising 2 pool s) h

@@ -2,7 +2,7 @@
 -- common: the start of the later one.
 use mathlib.Core.Path.{_≡_, refl, sym, _∙_}
 use mathlib.Core.Logic.{inl, inr, ⊎-elim}
-use mathlib.Core.Bool.{Bool, true, false, _||_}
+use mathlib.Core.Bool.{Bool, true, false, _||_, or-assoc, or-false as or-none}
 use mathlib.Core.List.{List, [], _∷_}
 use Prim.Native.Nat.{ℕ, zero, suc, _+_, _<_, _≤_}
 use native.Mathlib.Omega.{arith}
@@ -10,14 +10,15 @@ use lib.Dec.{eqb, ltb, leb}
 use lib.ListN.{length, getD, set, take, replicate, length-set, length-replicate}
 use lib.Seq.{take-all}
 use borrow.Author.Tests.{ltb-true, leb-true, leb-false, lt-ltb, le-leb, eqb-true, eqb-false}
-use Rattle.rules.specs.Lists.{any}
+use Rattle.rules.specs.Lists.{any-passes}
 use Rattle.rules.proofs.Lists.{by-cases, true-false, or-false, and-left, and-right, and-both, or-right}
+use Rattle.table_slices.proofs.Slices.{taken-on}
 use Rattle.table.specs.Facts.{All, none, both, Pairs, alone}
 use Rattle.table.specs.Spelled.{Row, row-at, start-of, size, Clear}
 use Rattle.table.proofs.Facts.{all-more}
 use Rattle.lent.specs.State.{every-two, clear}
-use Rattle.lent.specs.Marks.{between, Taken, Takes}
-use Rattle.lent.proofs.Tests.{two-test, taken-on, pairs-last, pairs-behind, any-last, fails-any, or-none, set-mark}
+use Rattle.lent.specs.Marks.{between, PartMarked, Takes}
+use Rattle.lent.proofs.Tests.{two-test, pairs-last, pairs-behind, any-last, fails-any, set-mark}
 use Rattle.lent.proofs.Judged.{clear-test, clears-fact}
 
 -- ---- a part's words
@@ -44,29 +45,25 @@ between-next start j w h = by-cases (eqb w j)
 
 -- ---- a loop that marks the words from start on, up to j
 
-or-assoc : (a b c : Bool) → ((a || b) || c) ≡ (a || (b || c))
-or-assoc true b c = refl
-or-assoc false b c = refl
-
 between-none : (start w : ℕ) → between start start w ≡ false
 between-none start w = between-fails start start w (λ a b. omega arith)
 
-pub taken-none : (marks : List Bool) (start : ℕ) → Taken marks start start marks
+pub taken-none : (marks : List Bool) (start : ℕ) → PartMarked marks start start marks
 taken-none marks start = record {
   long = refl;
   free = λ w h. true-false h (between-none start w);
-  marked = λ w. let e = between-none start w in rw e (or-none (getD marks w false));
+  marked = λ w. let e = between-none start w in rw e (sym (or-none (getD marks w false)));
 }
 
-module _ {marks₀ : List Bool} {start j : ℕ} {marks : List Bool} (t : Taken marks₀ start j marks) (h : start ≤ j) where
+module _ {marks₀ : List Bool} {start j : ℕ} {marks : List Bool} (t : PartMarked marks₀ start j marks) (h : start ≤ j) where
   -- the word at j is as it was found
   found : getD marks j false ≡ getD marks₀ j false
-  found = t .marked j ∙ (let e = between-fails start j j (λ a b. omega arith) in rw e (sym (or-none (getD marks₀ j false))))
+  found = t .marked j ∙ (let e = between-fails start j j (λ a b. omega arith) in rw e (or-none (getD marks₀ j false)))
 
   pub taken-hit : (end : ℕ) → j < end → getD marks j false ≡ true → Takes marks₀ start end false marks
   taken-hit end k e = (j, between-test start end j h k, sym found ∙ e)
 
-  pub taken-next : j < length marks → getD marks j false ≡ false → Taken marks₀ start (j + 1) (set marks j true)
+  pub taken-next : j < length marks → getD marks j false ≡ false → PartMarked marks₀ start (j + 1) (set marks j true)
   taken-next k e = record {
     long = length-set marks j true ∙ t .long;
     free = λ w b. by-cases (eqb w j)
@@ -83,7 +80,8 @@ module _ {marks₀ : List Bool} {start j : ℕ} {marks : List Bool} (t : Taken m
   }
 
 -- a part by other names
-pub takes-same : (marks marks′ : List Bool) {start start′ end end′ : ℕ} {b b′ : Bool} → start ≡ start′ → end ≡ end′ → b ≡ b′ → Takes marks start end b marks′ → Takes marks start′ end′ b′ marks′
+pub takes-same : (marks marks′ : List Bool) {start start′ end end′ : ℕ} {b b′ : Bool} → start ≡ start′ → end ≡ end′ → b ≡ b′ → Takes marks start end b marks′ →
+    Takes marks start′ end′ b′ marks′
 takes-same marks marks′ p q r t = rw (p, q, r) at t
 
 -- ---- two parts
@@ -117,19 +115,22 @@ module _ (r x : Row) where
       (λ e. let l = leb-false (start-of r) (start-of x) e in common (start-of r) (omega arith) (omega arith) (omega arith) (omega arith))
     where
       common : (w : ℕ) → start-of x ≤ w → w < start-of x + size x → start-of r ≤ w → w < start-of r + size r → Clear r x
-      common w xl xh rl rh = true-false (between-test (start-of r) (start-of r + size r) w rl rh) (f w (between-test (start-of x) (start-of x + size x) w xl xh))
+      common w xl xh rl rh =
+          true-false (between-test (start-of r) (start-of r + size r) w rl rh) (f w (between-test (start-of x) (start-of x + size x) w xl xh))
 
-apart-clears : (rs : List Row) (x : Row) → ((w : ℕ) → covers w x ≡ true → any (covers w) rs ≡ false) → All (λ r. Clear r x) rs
-unfolding any
+apart-clears : (rs : List Row) (x : Row) → ((w : ℕ) → covers w x ≡ true → any-passes (covers w) rs ≡ false) → All (λ r. Clear r x) rs
+unfolding any-passes
 apart-clears [] x f = none
-apart-clears (r ∷ rs) x f = both (apart-clear r x (λ w h. or-false (covers w r) (any (covers w) rs) (f w h) .0)) (apart-clears rs x (λ w h. or-false (covers w r) (any (covers w) rs) (f w h) .1))
+apart-clears (r ∷ rs) x f =
+    both (apart-clear r x (λ w h. or-false (covers w r) (any-passes (covers w) rs) (f w h) .0))
+    (apart-clears rs x (λ w h. or-false (covers w r) (any-passes (covers w) rs) (f w h) .1))
 
 -- ---- a loop over the rows
 
 pub record Parted (rows : List Row) (marks : List Bool) (i : ℕ) : Type 0 where
   pub within : i ≤ length rows
   pub room : length marks ≡ 8192
-  pub marked : (w : ℕ) → getD marks w false ≡ any (covers w) (take i rows)
+  pub marked : (w : ℕ) → getD marks w false ≡ any-passes (covers w) (take i rows)
   pub apart : Pairs Clear (take i rows)
 
 unmarked : (n w : ℕ) → getD (replicate n false) w false ≡ false
@@ -139,7 +140,7 @@ unmarked (suc n) (suc w) = unmarked n w
 
 module _ (rows : List Row) where
   pub parted-start : Parted rows (replicate 8192 false) 0
-  unfolding any
+  unfolding any-passes
   parted-start = record { within = omega arith; room = length-replicate 8192 false; marked = unmarked 8192; apart = alone }
 
   module _ {marks : List Bool} {i : ℕ} (t : Parted rows marks i) where
@@ -157,10 +158,11 @@ module _ (rows : List Row) where
       parted-overlap marks′ o =
           let w = o .0 in
           by-cases (every-two clear rows)
-          (λ e. true-false (sym (t .marked w) ∙ o .2) (fails-any (covers w) (all-more (λ r c. clear-apart r x c w (o .1)) (pairs-behind rows i [] more (clears-fact rows e)))))
+          (λ e. true-false (sym (t .marked w) ∙ o .2)
+          (fails-any (covers w) (all-more (λ r c. clear-apart r x c w (o .1)) (pairs-behind rows i [] more (clears-fact rows e)))))
           sym
 
-      pub parted-next : {marks′ : List Bool} → Taken marks (start-of x) end marks′ → Parted rows marks′ (i + 1)
+      pub parted-next : {marks′ : List Bool} → PartMarked marks (start-of x) end marks′ → Parted rows marks′ (i + 1)
       parted-next {marks′} k =
           let e = taken-on rows i [] more in
           record {

@@ -1,19 +1,18 @@
 -- A test of each element of a list, or of every two, and the fact that it decides. Nothing here knows of clauses.
 use mathlib.Core.Path.{_≡_, refl, sym, _∙_}
 use mathlib.Core.Logic.{_⊎_, inl, inr, ⊎-elim}
-use mathlib.Core.Bool.{Bool, true, false, _||_}
+use mathlib.Core.Bool.{Bool, true, false, _||_, or-false as or-none}
 use mathlib.Core.List.{List, [], _∷_, _++_, reverse, reverse-cons, reverse-reverse, append-nil}
 use Prim.Native.Nat.{ℕ, suc, _+_, _<_, _≤_}
-use native.Mathlib.Numerals.{add-one}
 use native.Mathlib.Omega.{arith}
 use lib.ListN.{length, getD, set, take, drop, drop-of-length-le}
-use lib.Seq.{length-take-le, take-suc, split-at, getD-take, getD-set-same, getD-set-other}
+use lib.Seq.{split-at, getD-set-same, getD-set-other}
 use lib.Dec.{eqb}
 use borrow.Author.Tests.{eqb-true, eqb-false, eq-eqb}
-use Rattle.rules.specs.Lists.{any, all, only}
+use Rattle.rules.specs.Lists.{any-passes, all-pass, only}
 use Rattle.rules.proofs.Lists.{by-cases, or-false, from-index, and-left, and-right, and-both, or-left, or-right, all-nil, all-cons, all-head, all-tail}
 use Rattle.table.specs.Facts.{All, none, both, Pairs, alone, ahead}
-use Rattle.table.proofs.Facts.{all-index, all-join, all-unreverse, all-more, pairs-before, pairs-put}
+use Rattle.table.proofs.Facts.{all-join, all-unreverse, all-more, pairs-before, pairs-put}
 use Rattle.lent.specs.State.{every-two}
 
 -- one of two
@@ -27,11 +26,11 @@ module _ {P Q : Type 0} where
 
 -- each
 module _ {A : Type 0} {p : A → Bool} {P : A → Type 0} where
-  pub all-fact : ((x : A) → p x ≡ true → P x) → (xs : List A) → all p xs ≡ true → All P xs
+  pub all-fact : ((x : A) → p x ≡ true → P x) → (xs : List A) → all-pass p xs ≡ true → All P xs
   all-fact f [] h = none
   all-fact f (x ∷ xs) h = both (f x (all-head p x xs h)) (all-fact f xs (all-tail p x xs h))
 
-  pub all-test : {xs : List A} → ((x : A) → P x → p x ≡ true) → All P xs → all p xs ≡ true
+  pub all-test : {xs : List A} → ((x : A) → P x → p x ≡ true) → All P xs → all-pass p xs ≡ true
   all-test f none = all-nil p
   all-test f (both {x} {xs} h a) = all-cons p x xs (f x h) (all-test f a)
 
@@ -40,7 +39,8 @@ module _ {A : Type 0} {p : A → A → Bool} {R : A → A → Type 0} where
   pub two-fact : ((x y : A) → p x y ≡ true → R x y) → (xs : List A) → every-two p xs ≡ true → Pairs R xs
   unfolding every-two
   two-fact f [] h = alone
-  two-fact f (x ∷ xs) h = ahead (all-fact (f x) xs (and-left (all (p x) xs) (every-two p xs) h)) (two-fact f xs (and-right (all (p x) xs) (every-two p xs) h))
+  two-fact f (x ∷ xs) h =
+      ahead (all-fact (f x) xs (and-left (all-pass (p x) xs) (every-two p xs) h)) (two-fact f xs (and-right (all-pass (p x) xs) (every-two p xs) h))
 
   pub two-test : {xs : List A} → ((x y : A) → R x y → p x y ≡ true) → Pairs R xs → every-two p xs ≡ true
   unfolding every-two
@@ -63,9 +63,6 @@ module _ {A : Type 0} where
 -- ---- a list up to an index, and from it on, for a loop that passes it
 
 module _ {A : Type 0} where
-  pub taken-on : (xs : List A) (i : ℕ) (d : A) → i < length xs → take (i + 1) xs ≡ take i xs ++ getD xs i d ∷ []
-  taken-on xs i d h = rw add-one (take-suc xs i d h)
-
   pub all-last : {P : A → Type 0} {xs : List A} {y : A} → All P xs → P y → All P (xs ++ y ∷ [])
   all-last a p = all-join a (both p none)
 
@@ -76,25 +73,19 @@ module _ {A : Type 0} where
   pub pairs-behind : {R : A → A → Type 0} (xs : List A) (i : ℕ) (d : A) → i < length xs → Pairs R xs → All (λ x. R x (getD xs i d)) (take i xs)
   pairs-behind xs i d h r = let e = split-at xs i d h in pairs-before (take i xs) (getD xs i d) (drop (suc i) xs) (rw e at r)
 
-  pub pairs-index : {R : A → A → Type 0} {xs : List A} → Pairs R xs → (i j : ℕ) (d : A) → i < j → j < length xs → R (getD xs i d) (getD xs j d)
-  pairs-index {xs} r i j d h k =
-      let e = getD-take j xs i d h in
-      let n = length-take-le j xs (omega arith) in
-      rw e at (all-index (pairs-behind xs j d k r) i d (omega arith))
-
   module _ (p : A → Bool) where
-    pub any-last : (xs : List A) (y : A) → any p (xs ++ y ∷ []) ≡ (any p xs || p y)
-    unfolding any
+    pub any-last : (xs : List A) (y : A) → any-passes p (xs ++ y ∷ []) ≡ (any-passes p xs || p y)
+    unfolding any-passes
     any-last [] y = by-cases (p y) (λ e. rw e) (λ e. rw e)
     any-last (x ∷ xs) y = let r = any-last xs y in by-cases (p x) (λ e. rw e) (λ e. rw (e, r))
 
-    pub any-fails : (xs : List A) → any p xs ≡ false → All (λ x. p x ≡ false) xs
-    unfolding any
+    pub any-fails : (xs : List A) → any-passes p xs ≡ false → All (λ x. p x ≡ false) xs
+    unfolding any-passes
     any-fails [] h = none
-    any-fails (x ∷ xs) h = let r = or-false (p x) (any p xs) h in both (r .0) (any-fails xs (r .1))
+    any-fails (x ∷ xs) h = let r = or-false (p x) (any-passes p xs) h in both (r .0) (any-fails xs (r .1))
 
-    pub fails-any : {xs : List A} → All (λ x. p x ≡ false) xs → any p xs ≡ false
-    unfolding any
+    pub fails-any : {xs : List A} → All (λ x. p x ≡ false) xs → any-passes p xs ≡ false
+    unfolding any-passes
     fails-any none = refl
     fails-any (both {x} {xs} e a) = let r = fails-any a in rw (e, r)
 
@@ -114,12 +105,8 @@ module _ {A : Type 0} where
 
 -- ---- a list of marks
 
-pub or-none : (b : Bool) → b ≡ (b || false)
-or-none true = refl
-or-none false = refl
-
 -- one more is marked
 pub set-mark : (marks : List Bool) (k m : ℕ) → k < length marks → getD (set marks k true) m false ≡ (getD marks m false || eqb m k)
 set-mark marks k m h = by-cases (eqb m k)
     (λ e. let q = eqb-true m k e in rw q (getD-set-same marks k true false h ∙ sym (or-right (getD marks k false) (eqb k k) (eq-eqb k k refl))))
-    (λ e. rw e (getD-set-other marks k m true false (eqb-false m k e) ∙ or-none (getD marks m false)))
+    (λ e. rw e (getD-set-other marks k m true false (eqb-false m k e) ∙ sym (or-none (getD marks m false))))

@@ -9,16 +9,17 @@ use lib.IntN.{ℤ}
 use lib.ListN.{length, getD, set, take, replicate, length-map, length-set, length-replicate, getD-replicate}
 use lib.Seq.{take-all}
 use borrow.Author.Tests.{ltb-true, ltb-false, eqb-true, eqb-false, eq-eqb, ne-eqb}
-use Rattle.rules.specs.Lists.{any, only}
+use Rattle.rules.specs.Lists.{any-passes, only}
 use Rattle.rules.specs.Terms.{has}
 use Rattle.rules.proofs.Lists.{by-cases, true-false}
+use Rattle.table_slices.proofs.Slices.{taken-on}
 use Rattle.table.specs.Facts.{All, none, alone}
 use Rattle.table.specs.Spelled.{Row, row-at, id-of, place-of, stands, clauses, held, Rising, Located}
 use Rattle.table.specs.declared.Found.the-variants.{At}
-use Rattle.table.proofs.Facts.{all-index, all-more}
+use Rattle.table.proofs.Facts.{all-index, all-more, pairs-index}
 use Rattle.table.proofs.Finding.{has-at}
 use Rattle.lent.specs.State.{lists}
-use Rattle.lent.proofs.Tests.{taken-on, all-last, pairs-last, pairs-behind, pairs-index, any-last, any-fails, fails-any, set-mark}
+use Rattle.lent.proofs.Tests.{all-last, pairs-last, pairs-behind, any-last, any-fails, fails-any, set-mark}
 use Rattle.lent.proofs.Listing.{Once, lists-each, lists-once, lists-many, lists-all}
 
 -- rows by rising id: their ids are the same where they are
@@ -34,7 +35,7 @@ same-row rows k m s hk hm = by-cases (eqb m k)
 pub record Ticked (rows : List Row) (ids : List ℕ) (marks : List Bool) (j : ℕ) : Type 0 where
   pub within : j ≤ length ids
   pub room : length rows ≤ length marks
-  pub marked : (m : ℕ) → m < length rows → getD marks m false ≡ any (eqb (id-of (row-at rows m))) (take j ids)
+  pub marked : (m : ℕ) → m < length rows → getD marks m false ≡ any-passes (eqb (id-of (row-at rows m))) (take j ids)
   pub each : (pool : List ℤ) → All (λ i. has (clauses 2 pool rows) i ≡ true) (take j ids)
   pub once : Once (take j ids)
 
@@ -53,7 +54,7 @@ module _ (rows : List Row) (ids : List ℕ) where
   miscounted n pool = no-list pool (λ h. n (lists-many ids _ h ∙ many pool))
 
   pub ticked-start : length rows ≤ 1024 → Ticked rows ids (replicate 1024 false) 0
-  unfolding any
+  unfolding any-passes
   ticked-start h = record {
     within = omega arith;
     room = omega (arith, length-replicate 1024 false);
@@ -80,13 +81,14 @@ module _ (rows : List Row) (ids : List ℕ) where
         misplaced n = unstacked (λ pool. let e = l .1 in rw e at (has-at pool rows rising k (l .0) 2 ∙ ne-eqb (place-of (row-at rows k)) 2 n))
 
         -- the mark of its row tells whether an earlier id is the same
-        seen : (b : Bool) → getD marks k false ≡ b → any (eqb i) (take j ids) ≡ b
+        seen : (b : Bool) → getD marks k false ≡ b → any-passes (eqb i) (take j ids) ≡ b
         seen b h = let e = l .1 in sym (rw e at (t .marked k (l .0))) ∙ h
 
         pub repeated : getD marks k false ≡ true → Answers false
-        repeated h pool = no-list pool (λ o. true-false (seen true h) (fails-any (eqb i) (all-more (λ x n. ne-eqb i x n) (pairs-behind ids j 0 more (lists-once ids _ o)))))
+        repeated h pool =
+            no-list pool (λ o. true-false (seen true h) (fails-any (eqb i) (all-more (λ x n. ne-eqb i x n) (pairs-behind ids j 0 more (lists-once ids _ o)))))
 
-        ticked-mark : (m : ℕ) → m < length rows → getD (set marks k true) m false ≡ any (eqb (id-of (row-at rows m))) (take (j + 1) ids)
+        ticked-mark : (m : ℕ) → m < length rows → getD (set marks k true) m false ≡ any-passes (eqb (id-of (row-at rows m))) (take (j + 1) ids)
         ticked-mark m h =
             let e = taken-on ids j 0 more in
             let a = any-last (eqb (id-of (row-at rows m))) (take j ids) i in

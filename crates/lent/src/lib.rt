@@ -1,4 +1,4 @@
-// What is lent and carried: that no two parts of the pool overlap, and that the stack lists each stacked clause once.
+// What is lent and carried: what is carried on of a working table, that no two parts of the pool overlap, and that the stack lists each stacked clause once.
 ghost use mathlib.Core.Path.{_≡_};
 ghost use mathlib.Core.Bool.{true, _&&_};
 ghost use mathlib.Core.List.{List};
@@ -7,12 +7,17 @@ ghost use lib.Dec.{eqb};
 ghost use lib.IntN.{ℤ};
 ghost use lib.ListN.{length};
 ghost use Rattle.rules.specs.Answers.{lent};
-ghost use Rattle.rules.specs.Lists.{all, only};
+ghost use Rattle.rules.specs.Lists.{all-pass, only};
 ghost use Rattle.table.specs.Spelled.{Rising, clauses, stands};
 ghost use Rattle.lent.specs.Marks.{Takes};
 ghost use Rattle.lent.specs.State.{clear, every-two, inside, lists};
+ghost use Rattle.lent.specs.Stored.{carried-of};
 use rules::Answer;
 use table::Found;
+use table::PLACE;
+use table::Row;
+use table::START;
+use table::Table;
 
 // What goes beside the lent tables: V, the highest id accepted, how many entries are held, how many words they hold, how many ids are on the stack,
 // and the stack's ids from its bottom.
@@ -30,6 +35,20 @@ pub struct Carried {
 pub struct Called {
     pub answer: Answer,
     pub carried: Carried,
+}
+
+// What is carried on of a working table.
+pub fn carry(t: Table, stack: [u32; 1024]) -> Carried
+    ensures { λ r. ⌜ r ≡ carried-of t stack ⌝ }
+{
+    Carried {
+        vars: t.vars,
+        highest: t.highest,
+        count: t.count,
+        words: t.words,
+        depth: t.depth,
+        stack,
+    }
 }
 
 // Lent sizes, of entries and of words, that are in range.
@@ -60,13 +79,6 @@ pub fn in_sizes_with_model(entries: usize, words: usize, buffer: usize) -> bool
 
 // ---- the parts of the pool
 
-// As a number that may be summed.
-pub fn wide(x: u32) -> usize
-    ensures { λ r. ⌜ (r ≡ x) × (r ≤ 4294967295) ⌝ }
-{
-    x as usize
-}
-
 // Marks the words of a part, from start to end; or false, where one of them was marked already. An empty part may lie anywhere.
 fn mark_part(marks: &mut [bool], start: usize, end: usize) -> bool
     requires { ⌜ (start ≤ end) × (start < end → end ≤ length (now marks)) ⌝ }
@@ -84,16 +96,16 @@ fn mark_part(marks: &mut [bool], start: usize, end: usize) -> bool
 }
 
 // Whether no two parts overlap: no part has a word that an earlier part marked.
-pub fn are_apart(rows: &[[u32; 5]], words: usize) -> bool
-    requires { ⌜ (all (inside words) (now rows) ≡ true) × (words ≤ 8192) ⌝ }
+pub fn are_apart(rows: &[Row], words: usize) -> bool
+    requires { ⌜ (all-pass (inside words) (now rows) ≡ true) × (words ≤ 8192) ⌝ }
     ensures { λ r. ⌜ r ≡ every-two clear (now (rows .entry)) ⌝ }
 {
     let mut marks = [false; 8192];
     let mut i = 0;
     while i < rows.len() {
         let row = rows[i];
-        let start = wide(row[2]);
-        let end = start + (wide(row[3]) + wide(row[4]));
+        let start = table::wide(row[START]);
+        let end = start + table::size_of(row);
         if !mark_part(&mut marks, start, end) {
             return false;
         }
@@ -105,13 +117,13 @@ pub fn are_apart(rows: &[[u32; 5]], words: usize) -> bool
 // ---- the stack
 
 // How many rows are stacked.
-fn count_stacked(rows: &[[u32; 5]]) -> usize
+fn count_stacked(rows: &[Row]) -> usize
     ensures { λ r. ⌜ r ≡ length (only (stands 2) (now (rows .entry))) ⌝ }
 {
     let mut n: usize = 0;
     let mut k = 0;
     while k < rows.len() {
-        if rows[k][1] == 2 {
+        if rows[k][PLACE] == 2 {
             n += 1;
         }
         k += 1;
@@ -120,7 +132,7 @@ fn count_stacked(rows: &[[u32; 5]]) -> usize
 }
 
 // Whether the ids list each stacked clause once: as many as there are, and each a stacked clause's whose row is not marked yet.
-pub fn lists_each_once(rows: &[[u32; 5]], ids: &[u32]) -> bool
+pub fn lists_each_once(rows: &[Row], ids: &[u32]) -> bool
     requires { ⌜ Rising (now rows) × (length (now rows) ≤ 1024) ⌝ }
     ensures { λ r. ⌜ ((pool : List ℤ) → r ≡ lists (now (ids .entry)) (clauses 2 pool (now (rows .entry)))) ⌝ }
 {

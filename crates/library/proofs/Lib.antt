@@ -1,2 +1,6 @@
--- What the walks share.
+-- What the walks share (Answering), the one walk of the two calls that read a held clause (Held), and what a refused part leaves (Theorems), and that any two
+-- outcomes agree (Agreement).
 pub mod Answering
+pub mod Held
+pub mod Theorems
+pub mod Agreement

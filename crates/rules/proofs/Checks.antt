@@ -7,7 +7,7 @@ use lib.Dec.{eqb, leb}
 use lib.IntN.{ℤ, natAbs}
 use lib.ListN.{length}
 use borrow.Author.Tests.{le-leb, eqb-true, eq-eqb}
-use Rattle.rules.specs.Lists.{any, all}
+use Rattle.rules.specs.Lists.{any-passes, all-pass}
 use Rattle.rules.specs.Terms.{in-range, mentions, distinct, is-clause, Assignment, upd, Held}
 use Rattle.rules.specs.Answers.{_then_, need, flaw, unseen, cleanly, satisfied, assumed-true, decided}
 use Rattle.rules.specs.Histories.{models, Assumes}
@@ -58,7 +58,7 @@ assumed-assumes α at (l ∷ c) e = all-cons _ _ _ (need-true _ _ (then-left _ _
 
 -- literals that pass are in range, no variable occurs twice, and none was seen before
 pub record Flawless (vars : ℕ) (seen : ℕ → Bool) (c : List ℤ) : Type 0 where
-  pub range : all (in-range vars) c ≡ true
+  pub range : all-pass (in-range vars) c ≡ true
   pub once : distinct c ≡ true
   pub fresh : (v : ℕ) → seen v ≡ true → mentions c v ≡ false
 
@@ -71,7 +71,7 @@ unfolding upd
 seen-now seen v = rw (eq-eqb v v refl)
 
 pub flawless : (vars : ℕ) (seen : ℕ → Bool) (at : ℕ) (c : List ℤ) → flaw vars seen at c ≡ Passed → Flawless vars seen c
-unfolding flaw distinct any
+unfolding flaw distinct any-passes
 flawless vars seen at [] e = record { range = all-nil _; once = refl; fresh = λ v h. refl }
 flawless vars seen at (l ∷ c) e =
     let t = need-true _ _ (then-left _ _ e) in
@@ -80,7 +80,9 @@ flawless vars seen at (l ∷ c) e =
     record {
       range = all-cons _ _ _ (and-left (in-range vars l) (not (seen (natAbs l))) t) (r .range);
       once = let k = r .fresh (natAbs l) (seen-now seen (natAbs l)) in rw k (r .once);
-      fresh = λ v h. let k = r .fresh v (seen-more seen (natAbs l) v h) in by-cases (eqb (natAbs l) v) (λ q. true-false h (rw (eqb-true (natAbs l) v q) at new)) (λ q. rw (q, k));
+      fresh =
+          λ v h. let k = r .fresh v (seen-more seen (natAbs l) v h) in
+          by-cases (eqb (natAbs l) v) (λ q. true-false h (rw (eqb-true (natAbs l) v q) at new)) (λ q. rw (q, k));
     }
 
 -- a list of at most 256 literals that passes is a clause
@@ -89,20 +91,22 @@ unfolding is-clause
 flaw-clause vars at c h e = let f = flawless vars unseen at c e in and-both (le-leb _ _ h) (and-both (f .range) (f .once))
 
 -- and a clause passes: where no variable of the list was seen before, each literal does
-passes : (vars : ℕ) (seen : ℕ → Bool) (at : ℕ) (c : List ℤ) → all (in-range vars) c ≡ true → distinct c ≡ true → ((v : ℕ) → mentions c v ≡ true → seen v ≡ false) → flaw vars seen at c ≡ Passed
-unfolding flaw distinct any upd need _then_
+passes : (vars : ℕ) (seen : ℕ → Bool) (at : ℕ) (c : List ℤ) → all-pass (in-range vars) c ≡ true → distinct c ≡ true →
+    ((v : ℕ) → mentions c v ≡ true → seen v ≡ false) → flaw vars seen at c ≡ Passed
+unfolding flaw distinct any-passes upd need _then_
 passes vars seen at [] r d n = refl
 passes vars seen at (l ∷ c) r d n =
     let v = natAbs l in
     let ranged = all-head (in-range vars) l c r in
     let here : seen v ≡ false = n v (or-left (eqb v v) (mentions c v) (eq-eqb v v refl)) in
     let once : mentions c v ≡ false = not-true (and-left (not (mentions c v)) (distinct c) d) in
-    let rest : flaw vars (upd seen v true) (at + 1) c ≡ Passed = passes vars (upd seen v true) (at + 1) c (all-tail (in-range vars) l c r) (and-right (not (mentions c v)) (distinct c) d)
+    let rest : flaw vars (upd seen v true) (at + 1) c ≡ Passed = passes vars (upd seen v true) (at + 1) c (all-tail (in-range vars) l c r)
+    (and-right (not (mentions c v)) (distinct c) d)
     (λ u m. by-cases (eqb v u) (λ e. let q = eqb-true v u e in true-false m (rw q at once)) (λ e. rw e (n u (or-right (eqb v u) (mentions c u) m)))) in
     rw (ranged, here, rest)
 
 pub clause-passes : (vars at : ℕ) (c : List ℤ) → is-clause vars c ≡ true → flaw vars unseen at c ≡ Passed
 unfolding is-clause
 clause-passes vars at c k =
-    let t = and-right (leb (length c) 256) (all (in-range vars) c && distinct c) k in
-    passes vars unseen at c (and-left (all (in-range vars) c) (distinct c) t) (and-right (all (in-range vars) c) (distinct c) t) (λ v m. refl)
+    let t = and-right (leb (length c) 256) (all-pass (in-range vars) c && distinct c) k in
+    passes vars unseen at c (and-left (all-pass (in-range vars) c) (distinct c) t) (and-right (all-pass (in-range vars) c) (distinct c) t) (λ v m. refl)

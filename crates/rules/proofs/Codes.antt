@@ -7,12 +7,15 @@ use lib.IntN.{ℤ, negℤ}
 use lib.ListN.{length, take, drop}
 use Rattle.rules.specs.Terms.{Literals, Assignment, Held, State, fetch}
 use Rattle.rules.specs.Propagation.{Allowed, among, proves}
-use Rattle.rules.specs.Frames.{Frame, ADD, LEARN, FORGET, PROMOTE, DROP, WEAKEN, RESTORE, SAT, UNSAT, Parsed, malformed, framed, parse, number, without, target}
-use Rattle.rules.specs.Answers.{_then_, need, flaw, ranged, ascending, cleanly, decided, groups, satisfied, assumed-true, check, settled, outcome, outcome-parsed}
+use Rattle.rules.specs.Frames.{Frame, ADD, LEARN, FORGET, PROMOTE, DROP, WEAKEN, RESTORE, SAT, UNSAT, Parsed, malformed, framed, parse, number, without}
+use Rattle.rules.specs.Frames.{target}
+use Rattle.rules.specs.Answers.{_then_, need, flaw, ranged, ascending, cleanly, decided, groups, satisfied, assumed-true, check, settled, outcome}
+use Rattle.rules.specs.Answers.{outcome-parsed}
 use Rattle.rules.specs.declared.Verdict.{Verdict}
 use Rattle.rules.specs.declared.Verdict.the-variants.{Proved, BadHint, UsedUp}
 use Rattle.rules.specs.declared.Fault.{Fault}
-use Rattle.rules.specs.declared.Fault.the-variants.{NoState, Malformed, Literal, Id, Unclean, NoWitness, Hint, Unproved, Group, Falsified, Assumption, NoEntry, NoWords}
+use Rattle.rules.specs.declared.Fault.the-variants.{NoState, Malformed, Literal, Id, Unclean, NoWitness, Hint, Unproved, Group, Falsified, Assumption}
+use Rattle.rules.specs.declared.Fault.the-variants.{NoEntry, NoWords}
 use Rattle.rules.specs.declared.Check.{Check}
 use Rattle.rules.specs.declared.Check.the-variants.{Passed, Failed}
 use Rattle.rules.specs.declared.Answer.{Answer}
@@ -84,7 +87,9 @@ grouped A c W [] at (x ∷ ws) = refl
 grouped A c W (D ∷ ds) at [] = refl
 grouped A c W (D ∷ ds) at (x ∷ []) = both _ _ (needs _ (Group at) refl) refl
 grouped A c W (D ∷ ds) at (x ∷ k ∷ ws) =
-    both _ _ (needs _ (Group at) refl) (both _ _ (needs _ (Group (at + 1)) refl) (both _ _ (decides (at + 2) (D .id) (proves A (target c W (D .lits)) (take (number k) ws))) (grouped A c W ds (at + 2 + number k) (drop (number k) ws))))
+    both _ _ (needs _ (Group at) refl) (both _ _ (needs _ (Group (at + 1)) refl)
+    (both _ _ (decides (at + 2) (D .id) (proves A (target c W (D .lits)) (take (number k) ws)))
+    (grouped A c W ds (at + 2 + number k) (drop (number k) ws))))
 
 satisfies : (α : Assignment) (hs : List Held) → blames (satisfied α hs) ≡ false
 unfolding satisfied
@@ -100,15 +105,25 @@ assumes α at (l ∷ c) = both _ _ (needs _ (Assumption at) refl) (assumes α (a
 
 checks : (s : State) (f : Frame) → blames (check s f) ≡ false
 unfolding check
-checks s (ADD i c) = both _ _ (flaws (s .vars) _ 2 c) (both _ _ (needs _ (Id i) refl) (both _ _ (cleans c (s .stack)) (both _ _ (needs _ NoEntry refl) (needs _ NoWords refl))))
-checks s (LEARN i c hints) = both _ _ (flaws (s .vars) _ 3 c) (both _ _ (needs _ (Id i) refl) (both _ _ (needs _ NoEntry refl) (both _ _ (needs _ NoWords refl) (decides (3 + length c) 0 (proves (among (s .irredundant ++ s .learned)) c hints)))))
+checks s (ADD i c) =
+    both _ _ (flaws (s .vars) _ 2 c) (both _ _ (needs _ (Id i) refl) (both _ _ (cleans c (s .stack)) (both _ _ (needs _ NoEntry refl) (needs _ NoWords refl))))
+checks s (LEARN i c hints) =
+    both _ _ (flaws (s .vars) _ 3 c)
+    (both _ _ (needs _ (Id i) refl)
+    (both _ _ (needs _ NoEntry refl) (both _ _ (needs _ NoWords refl) (decides (3 + length c) 0 (proves (among (s .irredundant ++ s .learned)) c hints)))))
 checks s (FORGET i) = needs _ (Id i) refl
 checks s (PROMOTE i) = needs _ (Id i) refl
 checks s (DROP i hints) = both _ _ (needs _ (Id i) refl) (decides 2 0 (proves (among (without (s .irredundant) i)) (fetch (s .irredundant) i .lits) hints))
-checks s (WEAKEN i w ws) = both _ _ (flaws (s .vars) _ 3 w) (both _ _ (needs _ (Id i) refl) (both _ _ (needs _ NoWitness refl) (both _ _ (needs _ NoWords refl) (grouped _ _ _ _ (3 + length w) ws))))
+checks s (WEAKEN i w ws) =
+    both _ _ (flaws (s .vars) _ 3 w)
+    (both _ _ (needs _ (Id i) refl) (both _ _ (needs _ NoWitness refl) (both _ _ (needs _ NoWords refl) (grouped _ _ _ _ (3 + length w) ws))))
 checks s (RESTORE i) = both _ _ (needs _ (Id i) refl) (cleans _ _)
-checks s (SAT assumed vs) = both _ _ (ranges (s .vars) 2 assumed) (both _ _ (ascends (s .vars) 0 (2 + length assumed) vs) (both _ _ (assumes _ 2 assumed) (both _ _ (cleans assumed (s .stack)) (satisfies _ (s .irredundant)))))
-checks s (UNSAT assumed hints) = both _ _ (ranges (s .vars) 2 assumed) (decides (2 + length assumed) 0 (proves (among (s .irredundant ++ s .learned)) (map negℤ assumed) hints))
+checks s (SAT assumed vs) =
+    both _ _ (ranges (s .vars) 2 assumed)
+    (both _ _ (ascends (s .vars) 0 (2 + length assumed) vs)
+    (both _ _ (assumes _ 2 assumed) (both _ _ (cleans assumed (s .stack)) (satisfies _ (s .irredundant)))))
+checks s (UNSAT assumed hints) =
+    both _ _ (ranges (s .vars) 2 assumed) (decides (2 + length assumed) 0 (proves (among (s .irredundant ++ s .learned)) (map negℤ assumed) hints))
 
 abbrev answered : Answer → Bool
 answered (Accepted n) = false

@@ -5,7 +5,7 @@ use mathlib.Core.List.{List, [], _∷_, List·Memᴰ}
 use Prim.Native.Nat.{ℕ}
 use lib.Dec.{eqb, ltb}
 use lib.IntN.{ℤ}
-use Rattle.rules.specs.Lists.{any, all}
+use Rattle.rules.specs.Lists.{any-passes, all-pass}
 use Rattle.rules.specs.Terms.{Assignment, lit, sat, clean, mentions, Held, has, fetch}
 use Rattle.rules.specs.Frames.{without, above, place, repair, mend}
 use Rattle.rules.specs.Histories.{models}
@@ -15,12 +15,12 @@ use Rattle.rules.proofs.Literals.{make-keeps, make-other}
 -- ---- a test that all of a place pass, when a clause comes or goes
 
 module _ (p : Held → Bool) where
-  pub fetch-all : (hs : List Held) (i : ℕ) → has hs i ≡ true → all p hs ≡ true → p (fetch hs i) ≡ true
-  unfolding fetch any
+  pub fetch-all : (hs : List Held) (i : ℕ) → has hs i ≡ true → all-pass p hs ≡ true → p (fetch hs i) ≡ true
+  unfolding fetch any-passes
   fetch-all [] i m h = absurd (false≢true m)
   fetch-all (x ∷ hs) i m h = by-cases (eqb (x .id) i) (λ e. rw e (all-head p _ _ h)) (λ e. rw e (fetch-all hs i (rw e at m) (all-tail p _ _ h)))
 
-  pub without-all : (hs : List Held) (i : ℕ) → all p hs ≡ true → all p (without hs i) ≡ true
+  pub without-all : (hs : List Held) (i : ℕ) → all-pass p hs ≡ true → all-pass p (without hs i) ≡ true
   unfolding without
   without-all [] i h = h
   without-all (x ∷ hs) i h = by-cases (eqb (x .id) i)
@@ -28,27 +28,27 @@ module _ (p : Held → Bool) where
       (λ e. rw e (all-cons p _ _ (all-head p _ _ h) (without-all hs i (all-tail p _ _ h))))
 
   -- what was taken out, put back
-  pub with-fetch : (hs : List Held) (i : ℕ) → p (fetch hs i) ≡ true → all p (without hs i) ≡ true → all p hs ≡ true
+  pub with-fetch : (hs : List Held) (i : ℕ) → p (fetch hs i) ≡ true → all-pass p (without hs i) ≡ true → all-pass p hs ≡ true
   unfolding fetch without
   with-fetch [] i q h = h
   with-fetch (x ∷ hs) i q h = by-cases (eqb (x .id) i)
       (λ e. all-cons p _ _ (rw e at q) (rw e at h))
-      (λ e. let k : all p (x ∷ without hs i) ≡ true = rw e at h in all-cons p _ _ (all-head p _ _ k) (with-fetch hs i (rw e at q) (all-tail p _ _ k)))
+      (λ e. let k : all-pass p (x ∷ without hs i) ≡ true = rw e at h in all-cons p _ _ (all-head p _ _ k) (with-fetch hs i (rw e at q) (all-tail p _ _ k)))
 
-  pub place-all : (x : Held) (hs : List Held) → p x ≡ true → all p hs ≡ true → all p (place x hs) ≡ true
+  pub place-all : (x : Held) (hs : List Held) → p x ≡ true → all-pass p hs ≡ true → all-pass p (place x hs) ≡ true
   unfolding place
   place-all x [] q h = all-cons p _ _ q h
   place-all x (y ∷ hs) q h = by-cases (ltb (x .id) (y .id))
       (λ e. rw e (all-cons p _ _ q h))
       (λ e. rw e (all-cons p _ _ (all-head p _ _ h) (place-all x hs q (all-tail p _ _ h))))
 
-  pub place-each : (x : Held) (hs : List Held) → all p (place x hs) ≡ true → (p x ≡ true) × (all p hs ≡ true)
+  pub place-each : (x : Held) (hs : List Held) → all-pass p (place x hs) ≡ true → (p x ≡ true) × (all-pass p hs ≡ true)
   unfolding place
   place-each x [] h = (all-head p _ _ h, all-tail p _ _ h)
   place-each x (y ∷ hs) h = by-cases (ltb (x .id) (y .id))
-      (λ e. let k : all p (x ∷ y ∷ hs) ≡ true = rw e at h in (all-head p _ _ k, all-tail p _ _ k))
+      (λ e. let k : all-pass p (x ∷ y ∷ hs) ≡ true = rw e at h in (all-head p _ _ k, all-tail p _ _ k))
       (λ e.
-      let k : all p (y ∷ place x hs) ≡ true = rw e at h in
+      let k : all-pass p (y ∷ place x hs) ≡ true = rw e at h in
       let r = place-each x hs (all-tail p _ _ k) in
       (r .0, all-cons p _ _ (all-head p _ _ k) (r .1)))
 
@@ -63,7 +63,7 @@ clean-of c r = clean c (r .witness)
 
 -- clean against every record
 abbrev pub clean-all : List ℤ → List Held → Bool
-clean-all c rs = all (clean-of c) rs
+clean-all c rs = all-pass (clean-of c) rs
 
 -- a true literal of a clause that is clean against the record stays true
 repair-keeps : (α : Assignment) (c : List ℤ) (r : Held) (l : ℤ) → List·Memᴰ l c → clean-of c r ≡ true → lit α l ≡ true → lit (repair α r) l ≡ true
@@ -82,11 +82,11 @@ pub mend-clean : (rs : List Held) (α : Assignment) (c : List ℤ) → clean-all
 mend-clean rs α c k h = let x = any-find (lit α) c h in any-in _ (x .1) (mend-keeps rs α c (x .0) (x .1) k (x .2))
 
 -- the walk changes only variables of witnesses
-pub mend-other : (rs : List Held) (α : Assignment) (v : ℕ) → any (λ r. mentions (r .witness) v) rs ≡ false → mend α rs v ≡ α v
-unfolding mend any
+pub mend-other : (rs : List Held) (α : Assignment) (v : ℕ) → any-passes (λ r. mentions (r .witness) v) rs ≡ false → mend α rs v ≡ α v
+unfolding mend any-passes
 mend-other [] α v h = refl
 mend-other (r ∷ rs) α v h =
-    let k = or-false (mentions (r .witness) v) (any (λ x. mentions (x .witness) v) rs) h in
+    let k = or-false (mentions (r .witness) v) (any-passes (λ x. mentions (x .witness) v) rs) h in
     mend-other rs (repair α r) v (k .1) ∙ by-cases (sat α (r .lits)) (λ e. rw e) (λ e. rw e (make-other (r .witness) α v (k .0)))
 
 -- where every record's clause is true the walk changes nothing
@@ -96,7 +96,8 @@ mend-models [] α h = refl
 mend-models (r ∷ rs) α h = let t = all-head (meets α) _ _ h in rw t (mend-models rs α (all-tail (meets α) _ _ h))
 
 -- a true clause that is clean against the records above its own may leave the stack: the walk is the same
-pub mend-without : (rs : List Held) (i : ℕ) (α : Assignment) → clean-all (fetch rs i .lits) (above rs i) ≡ true → sat α (fetch rs i .lits) ≡ true → mend α (without rs i) ≡ mend α rs
+pub mend-without : (rs : List Held) (i : ℕ) (α : Assignment) → clean-all (fetch rs i .lits) (above rs i) ≡ true → sat α (fetch rs i .lits) ≡ true →
+    mend α (without rs i) ≡ mend α rs
 unfolding mend without fetch above
 mend-without [] i α k h = refl
 mend-without (r ∷ rs) i α k h = by-cases (eqb (r .id) i)

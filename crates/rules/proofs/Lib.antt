@@ -9,6 +9,7 @@ pub mod Sound
 pub mod Places
 pub mod Shaped
 pub mod Kept
+pub mod Past
 pub mod Meaning
 pub mod Theorems
 pub mod Outcomes

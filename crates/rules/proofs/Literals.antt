@@ -6,7 +6,7 @@ use Prim.Native.Nat.{ℕ, zero, suc}
 use lib.Dec.{eqb, eqb·suc-suc, eqb·zero-suc}
 use lib.IntN.{ℤ, pos, negsuc, negℤ, natAbs}
 use borrow.Author.Tests.{eqb-true, eqb-false, eq-eqb, ne-eqb}
-use Rattle.rules.specs.Lists.{any, all}
+use Rattle.rules.specs.Lists.{any-passes, all-pass}
 use Rattle.rules.specs.Terms.{same, Literals, in-range, holds, opposes, mentions, distinct, Assignment, upd, lit, sat}
 use Rattle.rules.specs.Frames.{put, make}
 use Rattle.rules.proofs.Lists.{by-cases, true-false, not-true, not-false, or-false, and-left, and-right, any-in, any-find, any-none, all-head, all-tail}
@@ -75,7 +75,7 @@ opposed-true α S (pos (suc n)) f h = not-false (f (negsuc n) h)
 opposed-true α S (negsuc n) f h = let e : α (suc n) ≡ false = f (pos (suc n)) h in rw e
 
 -- a list with a literal and its opposite has a true literal
-pub sat-opposed : (α : Assignment) (c : List ℤ) → any (opposes (holds c)) c ≡ true → sat α c ≡ true
+pub sat-opposed : (α : Assignment) (c : List ℤ) → any-passes (opposes (holds c)) c ≡ true → sat α c ≡ true
 sat-opposed α c h =
     let r = any-find (opposes (holds c)) c h in
     by-cases (sat α c) (λ t. t) λ f.
@@ -115,7 +115,7 @@ put-self vars α (negsuc n) h = rw (upd-self α (suc n) false)
 
 -- all the literals of w become true: a true literal whose opposite is not among them stays true
 pub make-keeps : (w : List ℤ) (α : Assignment) (l : ℤ) → opposes (holds w) l ≡ false → lit α l ≡ true → lit (make α w) l ≡ true
-unfolding any make
+unfolding any-passes make
 make-keeps [] α l o h = h
 make-keeps (x ∷ w) α l o h =
     let r = or-false (clash x l) (opposes (holds w) l) (sym (opposes-also x (holds w) l) ∙ o) in
@@ -127,7 +127,7 @@ apart [] = true
 apart (l ∷ c) = not (opposes (holds c) l) && apart c
 
 -- they are true then: here `apart` is needed, and that 0 is not among them
-pub make-true : (vars : ℕ) (w : List ℤ) (α : Assignment) (l : ℤ) → all (in-range vars) w ≡ true → apart w ≡ true → List·Memᴰ l w → lit (make α w) l ≡ true
+pub make-true : (vars : ℕ) (w : List ℤ) (α : Assignment) (l : ℤ) → all-pass (in-range vars) w ≡ true → apart w ≡ true → List·Memᴰ l w → lit (make α w) l ≡ true
 unfolding make apart
 make-true vars w α l r a (List·Memᴰ·head {x = x} {xs = v} e) =
     let o = not-true (and-left (not (opposes (holds v) x)) (apart v) a) in
@@ -143,7 +143,7 @@ put-other α (negsuc n) v h = upd-other α (suc n) false v h
 
 -- other variables keep their values
 pub make-other : (w : List ℤ) (α : Assignment) (v : ℕ) → mentions w v ≡ false → make α w v ≡ α v
-unfolding make any
+unfolding make any-passes
 make-other [] α v h = refl
 make-other (l ∷ w) α v h =
     let r = or-false (eqb (natAbs l) v) (mentions w v) h in

@@ -5,11 +5,12 @@ use mathlib.Core.Bool.{true, false≢true}
 use mathlib.Core.List.{List, [], _∷_, map}
 use Prim.Native.Nat.{ℕ}
 use lib.IntN.{ℤ, negℤ}
-use Rattle.rules.specs.Lists.{any}
+use Rattle.rules.specs.Lists.{any-passes}
 use Rattle.rules.specs.Terms.{Assignment, lit, sat, State, everything, Terms}
 use Rattle.rules.specs.Frames.{Frame, SAT, UNSAT, Parsed, malformed, framed, parse, offered, mend}
 use Rattle.rules.specs.Answers.{check, hands, settled, outcome-parsed, outcome, mended}
-use Rattle.rules.specs.Histories.{History, added-by, step, Reached, models, Models, Assumes, Unopposed, Accepts, Answered, SameLiterals, Within, SameClauses}
+use Rattle.rules.specs.Histories.{History, added-by, step, Reached, models, Models, Assumes, Unopposed, Accepts, Answered, SameLiterals, Within}
+use Rattle.rules.specs.Histories.{SameClauses}
 use Rattle.rules.specs.declared.Fault.{Fault}
 use Rattle.rules.specs.declared.Check.{Check}
 use Rattle.rules.specs.declared.Check.the-variants.{Passed, Failed}
@@ -22,6 +23,7 @@ use Rattle.rules.proofs.Reaching.{of-reached}
 use Rattle.rules.proofs.Sound.{Sound, keeps-sound, begins-sound, decided-sound}
 use Rattle.rules.proofs.Shaped.{shaped}
 use Rattle.rules.proofs.Kept.{terms-kept, begins-terms}
+use Rattle.rules.proofs.Past.{handed-none}
 
 sound : (h : History) → Reached h → Sound h
 sound = of-reached Sound (λ vars entries words e. begins-sound vars entries words) (λ h ws f q e S. keeps-sound h f S e)
@@ -73,6 +75,7 @@ sat-means h r ws assumed vs a =
         of-added = of-added;
         of-assumptions = still-assumes s α assumed (cleanly-clean assumed _ (then-left _ _ q)) (assumed-assumes α 2 assumed (then-left _ _ e));
         elsewhere = λ v u. mend-other (s .stack) α v u;
+        nowhere-else = handed-none s (terms h r .stack) assumed vs (passed s ws (SAT assumed vs) a);
         of-held = follow h r β of-added;
         mends-to-itself = mend-models (s .stack) β (S .stacked β of-added);
       },
@@ -82,11 +85,12 @@ sat-means h r ws assumed vs a =
 
 -- not all the assumptions are true where one of their opposites is
 one-fails : (α : Assignment) (assumed : List ℤ) → sat α (map negℤ assumed) ≡ true → Assumes α assumed → ⊥
-unfolding any
+unfolding any-passes
 one-fails α [] h k = false≢true h
 one-fails α (l ∷ assumed) h k = let f = opposite-false α l (all-head (lit α) _ _ k) in one-fails α assumed (rw f at h) (all-tail (lit α) _ _ k)
 
-pub unsat-means : (h : History) → Reached h → (ws assumed hints : List ℤ) → Accepts (h .state) ws (UNSAT assumed hints) → (α : Assignment) → Models α (h .added) → Assumes α assumed → ⊥
+pub unsat-means : (h : History) → Reached h → (ws assumed hints : List ℤ) → Accepts (h .state) ws (UNSAT assumed hints) → (α : Assignment) →
+    Models α (h .added) → Assumes α assumed → ⊥
 unfolding check
 unsat-means h r ws assumed hints a α m k =
     let S = sound h r in
@@ -108,17 +112,18 @@ same-models h r assumed k = (
 same-sat : (α : Assignment) (c d : List ℤ) → SameLiterals c d → sat α c ≡ true → sat α d ≡ true
 same-sat α c d e h = let r = any-find (lit α) c h in any-in (lit α) (in-holds d (r .0) (sym (e (r .0)) ∙ holds-in (r .1))) (r .2)
 
-same-assumes : (α : Assignment) (c d : List ℤ) → SameLiterals c d → Assumes α c → Assumes α d
+pub same-assumes : (α : Assignment) (c d : List ℤ) → SameLiterals c d → Assumes α c → Assumes α d
 same-assumes α c d e h = all-of _ d (λ l m. all-at (lit α) h (in-holds c l (e l ∙ holds-in m)))
 
-within-models : (α : Assignment) (cs ds : List (List ℤ)) → Within ds cs → Models α cs → Models α ds
+pub within-models : (α : Assignment) (cs ds : List (List ℤ)) → Within ds cs → Models α cs → Models α ds
 within-models α cs ds w m = all-of _ ds (λ d k. let x = w d k in same-sat α (x .0) d (λ l. sym (x .2 l)) (all-at (sat α) m (x .1)))
 
 pub never-both : (h g : History) → Reached h → Reached g → SameClauses (h .added) (g .added) → (assumed denied : List ℤ) → SameLiterals assumed denied →
     (ws vs : List ℤ) → Accepts (h .state) ws (SAT assumed vs) → (us hints : List ℤ) → Accepts (g .state) us (UNSAT denied hints) → ⊥
 never-both h g r q same assumed denied literals ws vs a us hints b =
     let x = sat-means h r ws assumed vs a in
-    unsat-means g q us denied hints b (x .0) (within-models (x .0) (h .added) (g .added) (same .1) (x .2 .of-added)) (same-assumes (x .0) assumed denied literals (x .2 .of-assumptions))
+    unsat-means g q us denied hints b (x .0) (within-models (x .0) (h .added) (g .added) (same .1) (x .2 .of-added))
+    (same-assumes (x .0) assumed denied literals (x .2 .of-assumptions))
 
 -- ---- refusals
 
@@ -126,10 +131,12 @@ pub refused : (h : History) (ws : List ℤ) (f : Fault) → outcome (h .state) w
 unfolding outcome step
 refused h ws f e = by-parse (parse ws) e
   where
-    by-check : (g : Frame) (k : Check) → settled (h .state) g k .answer ≡ Refused f → record { state = settled (h .state) g k .state; added = added-by (settled (h .state) g k .answer) (framed g) (h .added) } ≡ h
+    by-check : (g : Frame) (k : Check) → settled (h .state) g k .answer ≡ Refused f →
+        record { state = settled (h .state) g k .state; added = added-by (settled (h .state) g k .answer) (framed g) (h .added) } ≡ h
     by-check g Passed q = cc
     by-check g (Failed x) q = refl
 
-    by-parse : (p : Parsed) → outcome-parsed (h .state) p .answer ≡ Refused f → record { state = outcome-parsed (h .state) p .state; added = added-by (outcome-parsed (h .state) p .answer) p (h .added) } ≡ h
+    by-parse : (p : Parsed) → outcome-parsed (h .state) p .answer ≡ Refused f →
+        record { state = outcome-parsed (h .state) p .state; added = added-by (outcome-parsed (h .state) p .answer) p (h .added) } ≡ h
     by-parse malformed q = refl
     by-parse (framed g) q = by-check g (check (h .state) g) q

@@ -7,14 +7,14 @@ use native.Mathlib.Omega.{arith}
 use lib.Dec.{eqb, ltb}
 use lib.ListN.{length}
 use borrow.Author.Tests.{ltb-true, ltb-false, lt-ltb, eqb-true, eqb-false, eq-eqb}
-use Rattle.rules.specs.Lists.{any, all}
+use Rattle.rules.specs.Lists.{any-passes, all-pass}
 use Rattle.rules.specs.Terms.{Held, has, fetch, room, tally, rising}
 use Rattle.rules.specs.Frames.{without, place}
 use Rattle.rules.proofs.Lists.{by-cases, and-left, and-right, and-both, all-nil, all-cons, all-at, all-of}
 use Rattle.rules.proofs.Held.{without-all, place-all}
 
 pub fetch-id : (hs : List Held) (i : ℕ) → has hs i ≡ true → fetch hs i .id ≡ i
-unfolding any fetch
+unfolding any-passes fetch
 fetch-id [] i m = absurd (false≢true m)
 fetch-id (h ∷ hs) i m = by-cases (eqb (h .id) i) (λ e. rw e (eqb-true (h .id) i e)) (λ e. rw e (fetch-id hs i (rw e at m)))
 
@@ -35,7 +35,7 @@ tally-place i x [] = refl
 tally-place i x (h ∷ hs) = by-cases (ltb (x .id) (h .id)) (λ e. rw e) (λ e. rw e (omega (arith, tally-place i x hs)))
 
 pub tally-without : (i j : ℕ) (hs : List Held) → has hs j ≡ true → tally i hs ≡ one j i + tally i (without hs j)
-unfolding tally without any
+unfolding tally without any-passes
 tally-without i j [] m = absurd (false≢true m)
 tally-without i j (h ∷ hs) m = by-cases (eqb (h .id) j)
     (λ e. let q = eqb-true (h .id) j e in rw (e, q))
@@ -56,7 +56,7 @@ length-place x [] = refl
 length-place x (h ∷ hs) = by-cases (ltb (x .id) (h .id)) (λ e. rw e (omega arith)) (λ e. rw e (omega (arith, length-place x hs)))
 
 pub length-without : (j : ℕ) (hs : List Held) → has hs j ≡ true → length hs ≡ 1 + length (without hs j)
-unfolding without any
+unfolding without any-passes
 length-without j [] m = absurd (false≢true m)
 length-without j (h ∷ hs) m = by-cases (eqb (h .id) j) (λ e. rw e (omega arith)) (λ e. rw e (omega (arith, length-without j hs (rw e at m))))
 
@@ -71,7 +71,7 @@ room-place x [] = refl
 room-place x (h ∷ hs) = by-cases (ltb (x .id) (h .id)) (λ e. rw e) (λ e. rw e (omega (arith, room-place x hs)))
 
 pub room-without : (j : ℕ) (hs : List Held) → has hs j ≡ true → room hs ≡ words-of (fetch hs j) + room (without hs j)
-unfolding room without fetch any
+unfolding room without fetch any-passes
 room-without j [] m = absurd (false≢true m)
 room-without j (h ∷ hs) m = by-cases (eqb (h .id) j) (λ e. rw e) (λ e. rw e (omega (arith, room-without j hs (rw e at m))))
 
@@ -80,11 +80,11 @@ room-without j (h ∷ hs) m = by-cases (eqb (h .id) j) (λ e. rw e) (λ e. rw e 
 abbrev pub later : Held → Held → Bool
 later h x = ltb (h .id) (x .id)
 
-pub rising-each : (h : Held) (hs : List Held) → rising (h ∷ hs) ≡ true → (all (later h) hs ≡ true) × (rising hs ≡ true)
+pub rising-each : (h : Held) (hs : List Held) → rising (h ∷ hs) ≡ true → (all-pass (later h) hs ≡ true) × (rising hs ≡ true)
 unfolding rising
-rising-each h hs s = (and-left (all (later h) hs) (rising hs) s, and-right (all (later h) hs) (rising hs) s)
+rising-each h hs s = (and-left (all-pass (later h) hs) (rising hs) s, and-right (all-pass (later h) hs) (rising hs) s)
 
-rising-cons : (h : Held) (hs : List Held) → all (later h) hs ≡ true → rising hs ≡ true → rising (h ∷ hs) ≡ true
+rising-cons : (h : Held) (hs : List Held) → all-pass (later h) hs ≡ true → rising hs ≡ true → rising (h ∷ hs) ≡ true
 unfolding rising
 rising-cons h hs a s = and-both a s
 
@@ -92,7 +92,7 @@ ltb-trans : (a b c : ℕ) → ltb a b ≡ true → ltb b c ≡ true → ltb a c 
 ltb-trans a b c p q = let r = ltb-true a b p in let s = ltb-true b c q in lt-ltb a c (omega arith)
 
 -- what is later than h is later than what stands before h
-all-later : (x h : Held) (hs : List Held) → later x h ≡ true → all (later h) hs ≡ true → all (later x) hs ≡ true
+all-later : (x h : Held) (hs : List Held) → later x h ≡ true → all-pass (later h) hs ≡ true → all-pass (later x) hs ≡ true
 all-later x h hs e a = all-of _ hs (λ y m. ltb-trans (x .id) (h .id) (y .id) e (all-at (later h) a m))
 
 pub rising-place : (x : Held) (hs : List Held) → tally (x .id) hs ≡ 0 → rising hs ≡ true → rising (place x hs) ≡ true

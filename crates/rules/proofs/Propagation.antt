@@ -6,9 +6,10 @@ use Prim.Native.Nat.{ℕ, _+_, _≤_}
 use native.Mathlib.Omega.{arith}
 use lib.ListN.{length}
 use lib.IntN.{ℤ, pos, negsuc, negℤ}
-use Rattle.rules.specs.Lists.{any}
+use Rattle.rules.specs.Lists.{any-passes}
 use Rattle.rules.specs.Terms.{Literals, same, holds, opposes, Assignment, lit, sat, Held, has, fetch}
-use Rattle.rules.specs.Propagation.{Named, nobody, clause, Allowed, among, named, Reading, conflict, forced, bad, reading, read, judge, Run, also, after, run, proves}
+use Rattle.rules.specs.Propagation.{Named, nobody, clause, Allowed, among, named, Looked, conflict, forced, bad, reading, read, judge, Run, also, after}
+use Rattle.rules.specs.Propagation.{run, proves}
 use Rattle.rules.specs.Histories.{models}
 use Rattle.rules.specs.declared.Verdict.{Verdict}
 use Rattle.rules.specs.declared.Verdict.the-variants.{Proved, BadHint, UsedUp}
@@ -33,13 +34,13 @@ abbrev Under : Assignment → Literals → Type 0
 Under α F = (l : ℤ) → F l ≡ true → lit α l ≡ false
 
 -- what a reading says of an assignment under which F is false and the clause true
-abbrev Says : Assignment → Reading → Type 0
+abbrev Says : Assignment → Looked → Type 0
 Says α conflict = ⊥
 Says α (forced u) = lit α u ≡ true
 Says α bad = Unit {0}
 
 says-reading : (α : Assignment) (F : Literals) (c : List ℤ) → sat α c ≡ true → Says α (reading F c)
-unfolding any
+unfolding any-passes
 says-reading α F [] h = false≢true h
 says-reading α F (u ∷ []) h = by-cases (opposes F u) (λ e. rw e tt) (λ e. rw e (by-cases (lit α u) (λ t. t) (λ f. absurd (false≢true (rw f at h)))))
 says-reading α F (u ∷ v ∷ more) h = tt
@@ -70,7 +71,8 @@ under-also α F u f t l h = by-cases (same (negℤ u) l)
 abbrev Unproving : Run → Type 0
 Unproving r = (n : ℕ) → r .verdict ≡ Proved n → ⊥
 
-after-sound : (α : Assignment) (F : Literals) (r : Reading) (n : ℕ) (go-on : ℤ → Run) → Says α r → ((u : ℤ) → lit α u ≡ true → Unproving (go-on u)) → Unproving (after r n F go-on)
+after-sound : (α : Assignment) (F : Literals) (r : Looked) (n : ℕ) (go-on : ℤ → Run) → Says α r → ((u : ℤ) → lit α u ≡ true → Unproving (go-on u)) →
+    Unproving (after r n F go-on)
 after-sound α F conflict n go-on s rest m e = s
 after-sound α F (forced u) n go-on s rest m e = rest u s m e
 after-sound α F bad n go-on s rest m e = let z : _≡_ {A = ℕ} 0 1 = cc in omega arith
@@ -84,7 +86,7 @@ run-sound α A F n (h ∷ hints) ok f m e =
 -- every assignment that satisfies all the allowed clauses satisfies a proved target
 pub proves-sound : (α : Assignment) (A : Allowed) (target hints : List ℤ) (n : ℕ) → Meets α A → proves A target hints ≡ Proved n → sat α target ≡ true
 unfolding proves
-proves-sound α A target hints n ok e = by-cases (any (opposes (holds target)) target) (sat-opposed α target) λ f.
+proves-sound α A target hints n ok e = by-cases (any-passes (opposes (holds target)) target) (sat-opposed α target) λ f.
     by-cases (sat α target) (λ t. t) λ u.
     absurd (run-sound α A (holds target) 0 hints ok (λ l h. any-none (lit α) u (in-holds target l h)) n (rw f at e))
 
@@ -95,7 +97,8 @@ Stopped most (Proved k) = k ≤ most
 Stopped most (BadHint k) = k ≤ most
 Stopped most UsedUp = Unit {0}
 
-stopped-after : (most n : ℕ) (F : Literals) (r : Reading) (go-on : ℤ → Run) → n + 1 ≤ most → ((u : ℤ) → Stopped most (go-on u .verdict)) → Stopped most (after r n F go-on .verdict)
+stopped-after : (most n : ℕ) (F : Literals) (r : Looked) (go-on : ℤ → Run) → n + 1 ≤ most → ((u : ℤ) → Stopped most (go-on u .verdict)) →
+    Stopped most (after r n F go-on .verdict)
 stopped-after most n F conflict go-on h rest = h
 stopped-after most n F (forced u) go-on h rest = rest u
 stopped-after most n F bad go-on h rest = omega arith
@@ -103,8 +106,11 @@ stopped-after most n F bad go-on h rest = omega arith
 pub run-stops : (A : Allowed) (F : Literals) (n most : ℕ) (hints : List ℤ) → n + length hints ≤ most → Stopped most (run A F n hints .verdict)
 unfolding run
 run-stops A F n most [] h = tt
-run-stops A F n most (x ∷ hints) h = stopped-after most n F (judge F (named A x)) _ (omega arith) (λ u. run-stops A (also (negℤ u) F) (n + 1) most hints (omega arith))
+run-stops A F n most (x ∷ hints) h =
+    stopped-after most n F (judge F (named A x)) _ (omega arith) (λ u. run-stops A (also (negℤ u) F) (n + 1) most hints (omega arith))
 
 pub proves-stops : (A : Allowed) (target hints : List ℤ) → Stopped (length hints) (proves A target hints)
 unfolding proves
-proves-stops A target hints = by-cases (any (opposes (holds target)) target) (λ t. rw t (omega arith)) (λ f. rw f (run-stops A (holds target) 0 (length hints) hints (omega arith)))
+proves-stops A target hints =
+    by-cases (any-passes (opposes (holds target)) target) (λ t. rw t (omega arith))
+    (λ f. rw f (run-stops A (holds target) 0 (length hints) hints (omega arith)))

@@ -1,6 +1,6 @@
 -- What holds at every accepted opening and is kept by every accepted frame holds of every history that is reached.
-use mathlib.Core.Path.{_≡_, refl}
-use mathlib.Core.List.{List, [], _∷_}
+use mathlib.Core.Path.{_≡_, refl, sym, ap, _∙_}
+use mathlib.Core.List.{List, [], _∷_, _++_}
 use Prim.Native.Nat.{ℕ}
 use lib.IntN.{ℤ}
 use Rattle.rules.specs.Frames.{Frame, Parsed, malformed, framed, parse, next}
@@ -25,11 +25,13 @@ module _
     unfolding step outcome
     one-step h ws p = by-parse (parse ws) refl
       where
-        by-check : (f : Frame) (k : Check) → parse ws ≡ framed f → check (h .state) f ≡ k → P (record { state = settled (h .state) f k .state; added = added-by (settled (h .state) f k .answer) (framed f) (h .added) })
+        by-check : (f : Frame) (k : Check) → parse ws ≡ framed f → check (h .state) f ≡ k →
+            P (record { state = settled (h .state) f k .state; added = added-by (settled (h .state) f k .answer) (framed f) (h .added) })
         by-check f Passed q e = keeps h ws f q e p
         by-check f (Failed x) q e = p
 
-        by-parse : (g : Parsed) → parse ws ≡ g → P (record { state = outcome-parsed (h .state) g .state; added = added-by (outcome-parsed (h .state) g .answer) g (h .added) })
+        by-parse : (g : Parsed) → parse ws ≡ g →
+            P (record { state = outcome-parsed (h .state) g .state; added = added-by (outcome-parsed (h .state) g .answer) g (h .added) })
         by-parse malformed q = p
         by-parse (framed f) q = by-check f (check (h .state) f) q refl
 
@@ -40,3 +42,20 @@ module _
 
     pub of-reached : (h : History) → Reached h → P h
     of-reached h r = let q = r .by-frames in rw q (all-steps (r .frames) _ (begins (r .vars) (r .entries) (r .words) (r .accepted)))
+
+-- ---- one frame more
+
+steps-one : (h : History) (fs : List (List ℤ)) (f : List ℤ) → steps h (fs ++ f ∷ []) ≡ step (steps h fs) f
+unfolding steps
+steps-one h [] f = refl
+steps-one h (g ∷ fs) f = steps-one (step h g) fs f
+
+pub reached-one : (h : History) (f : List ℤ) → Reached h → Reached (step h f)
+reached-one h f r = record {
+  vars = r .vars;
+  entries = r .entries;
+  words = r .words;
+  accepted = r .accepted;
+  frames = r .frames ++ f ∷ [];
+  by-frames = ap (λ x. step x f) (r .by-frames) ∙ sym (steps-one _ (r .frames) f);
+}

@@ -8,7 +8,8 @@ use lib.Dec.{leb}
 use lib.IntN.{ℤ, pos, negsuc}
 use lib.ListN.{length, getD, take, drop, length-take, length-drop}
 use borrow.Author.Tests.{ltb-true, leb-true}
-use Rattle.rules.specs.Frames.{Frame, ADD, LEARN, FORGET, PROMOTE, DROP, WEAKEN, RESTORE, SAT, UNSAT, malformed, framed, framed-if, word, number, positive, counts, rows, least-words, parse}
+use Rattle.rules.specs.Frames.{Frame, ADD, LEARN, FORGET, PROMOTE, DROP, WEAKEN, RESTORE, SAT, UNSAT, malformed, framed, framed-if, word, number}
+use Rattle.rules.specs.Frames.{positive, counts, rows, least-words, parse}
 use Rattle.rules.proofs.Lists.{by-cases, and-left, and-right}
 
 abbrev pub Shaped : Frame → Type 0
@@ -46,7 +47,10 @@ row-shaped : (op : ℕ) (ws : List ℤ) (f : Frame) → getD rows op (λ ws. mal
 row-shaped zero ws f e = not-framed f e
 row-shaped (suc zero) ws f e =
     let r = framed-is _ _ f e in
-    subst Shaped (r .1) (positive-number (word ws 1) (and-left (positive (word ws 1)) (leb (length ws - 2) 256) (r .0)), omega (arith, length-drop 2 ws, leb-true (length ws - 2) 256 (and-right (positive (word ws 1)) (leb (length ws - 2) 256) (r .0))))
+    subst Shaped (r .1) (
+      positive-number (word ws 1) (and-left (positive (word ws 1)) (leb (length ws - 2) 256) (r .0)),
+      omega (arith, length-drop 2 ws, leb-true (length ws - 2) 256 (and-right (positive (word ws 1)) (leb (length ws - 2) 256) (r .0))),
+    )
 row-shaped (suc (suc zero)) ws f e =
     let r = framed-is _ _ f e in
     let k = counts 0 (word ws 2) (length ws - 3) in

@@ -6,14 +6,16 @@ use mathlib.Core.List.{List, [], _∷_, List·Memᴰ, List·Memᴰ·append-cases
 use Prim.Native.Nat.{ℕ, _+_}
 use lib.IntN.{ℤ}
 use lib.ListN.{take}
-use Rattle.rules.specs.Lists.{any, all, only}
+use Rattle.rules.specs.Lists.{any-passes, all-pass, only}
 use Rattle.rules.specs.Terms.{Literals, holds, opposes, Assignment, lit, sat, Held, fetch}
 use Rattle.rules.specs.Propagation.{among, proves}
-use Rattle.rules.specs.Frames.{Frame, ADD, LEARN, FORGET, PROMOTE, DROP, WEAKEN, RESTORE, SAT, UNSAT, number, without, needs-group, target, make, repair, mend}
+use Rattle.rules.specs.Frames.{Frame, ADD, LEARN, FORGET, PROMOTE, DROP, WEAKEN, RESTORE, SAT, UNSAT, number, without, needs-group, target, make, repair}
+use Rattle.rules.specs.Frames.{mend}
 use Rattle.rules.specs.Answers.{unseen, decided, groups, check}
 use Rattle.rules.specs.Histories.{History, models, Models}
 use Rattle.rules.specs.declared.Check.the-variants.{Passed}
-use Rattle.rules.proofs.Lists.{by-cases, true-false, not-true, any-in, any-find, any-none, all-at, all-of, all-nil, all-cons, all-head, all-tail, all-append, only-in, only-out}
+use Rattle.rules.proofs.Lists.{by-cases, true-false, not-true, any-in, any-find, any-none, all-at, all-of, all-nil, all-cons, all-head, all-tail}
+use Rattle.rules.proofs.Lists.{all-append, only-in, only-out}
 use Rattle.rules.proofs.Literals.{in-holds, make-keeps, make-true, distinct-apart}
 use Rattle.rules.proofs.Held.{meets, fetch-all, without-all, with-fetch, place-all, place-each, mend-clean, mend-without}
 use Rattle.rules.proofs.Propagation.{among-meets, proves-sound}
@@ -22,7 +24,8 @@ use Rattle.rules.proofs.Checks.{then-left, then-right, need-true, decid
 
 -- ---- a check by hints that passed
 
-pub decided-sound : (α : Assignment) (hs : List Held) (c hints : List ℤ) (at d : ℕ) → models α hs ≡ true → decided at d (proves (among hs) c hints) ≡ Passed → sat α c ≡ true
+pub decided-sound : (α : Assignment) (hs : List Held) (c hints : List ℤ) (at d : ℕ) → models α hs ≡ true → decided at d (proves (among hs) c hints) ≡ Passed →
+    sat α c ≡ true
 decided-sound α hs c hints at d m e =
     let v = decided-proved at d (proves (among hs) c hints) e in
     proves-sound α (among hs) c hints (v .0) (among-meets α hs m) (v .1)
@@ -31,18 +34,19 @@ decided-sound α hs c hints at d m e =
 
 -- every D that needs a group has its target proved
 module _ (α : Assignment) (others : List Held) (c : List ℤ) (W : Literals) (ok : models α others ≡ true) where
-  groups-sound : (ds : List Held) (at : ℕ) (ws : List ℤ) → groups (among others) c W ds at ws ≡ Passed → all (λ D. sat α (target c W (D .lits))) ds ≡ true
+  groups-sound : (ds : List Held) (at : ℕ) (ws : List ℤ) → groups (among others) c W ds at ws ≡ Passed → all-pass (λ D. sat α (target c W (D .lits))) ds ≡ true
   unfolding groups
   groups-sound [] at ws e = all-nil _
   groups-sound (D ∷ ds) at [] e = cc
   groups-sound (D ∷ ds) at (x ∷ []) e = cc (then-right _ _ e)
   groups-sound (D ∷ ds) at (x ∷ k ∷ ws) e =
       let r = then-right _ _ (then-right _ _ e) in
-      all-cons _ _ _ (decided-sound α others (target c W (D .lits)) (take (number k) ws) (at + 2) (D .id) ok (then-left _ _ r)) (groups-sound ds _ _ (then-right _ _ r))
+      all-cons _ _ _ (decided-sound α others (target c W (D .lits)) (take (number k) ws) (at + 2) (D .id) ok (then-left _ _ r))
+      (groups-sound ds _ _ (then-right _ _ r))
 
 module _ (vars : ℕ) (α : Assignment) (w : List ℤ) (F : Flawless vars unseen w) where
   -- a clause that holds a literal of w is true once those are
-  has-witness : (c : List ℤ) → any (holds w) c ≡ true → sat (make α w) c ≡ true
+  has-witness : (c : List ℤ) → any-passes (holds w) c ≡ true → sat (make α w) c ≡ true
   has-witness c h =
       let r = any-find (holds w) c h in
       any-in (lit (make α w)) (r .1) (make-true vars w α (r .0) (F .range) (distinct-apart w (F .once)) (in-holds w (r .0) (r .2)))
@@ -57,10 +61,11 @@ module _ (vars : ℕ) (α : Assignment) (w : List ℤ) (F : Flawless vars unseen
   module _ (c : List ℤ) (others : List Held) (at : ℕ) (ws : List ℤ) (e : groups (among others) c (holds w) (only (needs-group (holds w)) others) at ws ≡ Passed)
       (ok : models α others ≡ true) (f : sat α c ≡ false) where
     -- D, which holds no literal of w, is true by a literal whose opposite is not in w: by its group, or because it holds no opposite of w at all
-    less : (D : Held) → List·Memᴰ D others → any (holds w) (D .lits) ≡ false → sat α (only (λ l. not (opposes (holds w) l)) (D .lits)) ≡ true
-    less D m n = by-cases (any (opposes (holds w)) (D .lits))
+    less : (D : Held) → List·Memᴰ D others → any-passes (holds w) (D .lits) ≡ false → sat α (only (λ l. not (opposes (holds w) l)) (D .lits)) ≡ true
+    less D m n = by-cases (any-passes (opposes (holds w)) (D .lits))
         (λ t.
-        let proved = all-at (λ x. sat α (target c (holds w) (x .lits))) (groups-sound α others c (holds w) ok _ at ws e) (only-in (needs-group (holds w)) m (rw (t, n))) in
+        let proved = all-at (λ x. sat α (target c (holds w) (x .lits))) (groups-sound α others c (holds w) ok _ at ws e)
+        (only-in (needs-group (holds w)) m (rw (t, n))) in
         let r = any-find (lit α) (target c (holds w) (D .lits)) proved in
         ⊎-elim (λ k. true-false (any-in (lit α) k (r .2)) f) (λ k. any-in (lit α) k (r .2)) (List·Memᴰ·append-cases c (r .1)))
         (λ u.
@@ -70,7 +75,7 @@ module _ (vars : ℕ) (α : Assignment) (w : List ℤ) (F : Flawless vars unseen
     -- where C is false, making the witness true keeps every other irredundant clause
     others-stay : models (make α w) others ≡ true
     others-stay = all-of (λ D. sat (make α w) (D .lits)) others λ D m.
-        by-cases (any (holds w) (D .lits)) (has-witness (D .lits)) (λ n. stays (D .lits) (less D m n))
+        by-cases (any-passes (holds w) (D .lits)) (has-witness (D .lits)) (λ n. stays (D .lits) (less D m n))
 
 -- ---- every step
 

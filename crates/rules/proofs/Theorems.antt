@@ -1,5 +1,5 @@
--- The theorems, over every history that starts at an accepted opening and takes any frames, refused ones included. To believe them, read specs/ and this file; how they are shown is in the other
--- modules.
+-- The theorems, over every history that starts at an accepted opening and takes any frames, refused ones included. To believe them, read specs/ and this file;
+-- how they are shown is in the other modules.
 use mathlib.Core.Path.{_≡_}
 use mathlib.Core.Logic.{_↔_}
 use mathlib.Core.Bool.{true}
@@ -26,11 +26,12 @@ propagation-is-sound A target hints n e α meets = proves-sound α A target hint
 pub held-clauses-follow : (h : History) → Reached h → (α : Assignment) → Models α (h .added) → models α (everything (h .state)) ≡ true
 held-clauses-follow = shown.follow
 
-pub irredundant-models-mend : (h : History) → Reached h → (α : Assignment) → models α (h .state .irredundant) ≡ true → Models (mend α (h .state .stack)) (h .added)
+pub irredundant-models-mend : (h : History) → Reached h → (α : Assignment) → models α (h .state .irredundant) ≡ true →
+    Models (mend α (h .state .stack)) (h .added)
 irredundant-models-mend = shown.mend-to-models
 
--- 3. An accepted SAT hands out a mended assignment: a model of every clause ever added and of its assumptions, which differs from the offered one only in variables of stacked witnesses. It satisfies
--- every held clause, and mends to itself.
+-- 3. An accepted SAT hands out a mended assignment: a model of every clause ever added and of its assumptions, which differs from the offered one only in
+-- variables of stacked witnesses, and where what is no variable of 1 to V is not true. It satisfies every held clause, and mends to itself.
 pub accepted-sat : (h : History) → Reached h → (ws assumed vs : List ℤ) → Accepts (h .state) ws (SAT assumed vs) →
     (β : Assignment) × (outcome (h .state) ws .handed ≡ mended (offered vs) β) × Answered h assumed (offered vs) β
 accepted-sat = shown.sat-means
@@ -40,13 +41,14 @@ pub accepted-unsat : (h : History) → Reached h → (ws assumed hints : List �
     (α : Assignment) → Models α (h .added) → Assumes α assumed → ⊥
 accepted-unsat = shown.unsat-means
 
--- 5. Whenever no assumption is the opposite of a stacked witness literal, added clauses and assumptions have a common model exactly when irredundant clauses and assumptions have one.
+-- 5. Whenever no assumption is the opposite of a stacked witness literal, added clauses and assumptions have a common model exactly when irredundant clauses
+-- and assumptions have one.
 pub same-answers : (h : History) → Reached h → (assumed : List ℤ) → Unopposed (h .state) assumed →
     ((α : Assignment) × Models α (h .added) × Assumes α assumed) ↔ ((α : Assignment) × (models α (h .state .irredundant) ≡ true) × Assumes α assumed)
 same-answers = shown.same-models
 
--- 6. Order-free: two histories whose added clauses are the same set, in whatever order and with whatever other steps, never have SAT accepted in one and UNSAT in the other under assumptions that
--- are the same set.
+-- 6. Order-free: two histories whose added clauses are the same set, in whatever order and with whatever other steps, never have SAT accepted in one and UNSAT
+-- in the other under assumptions that are the same set.
 pub order-free : (h g : History) → Reached h → Reached g → SameClauses (h .added) (g .added) → (assumed denied : List ℤ) → SameLiterals assumed denied →
     (ws vs : List ℤ) → Accepts (h .state) ws (SAT assumed vs) → (us hints : List ℤ) → Accepts (g .state) us (UNSAT denied hints) → ⊥
 order-free = shown.never-both

@@ -5,14 +5,16 @@ use Prim.Native.Nat.{ℕ, zero, suc, _+_}
 use lib.Dec.{ltb, leb}
 use lib.IntN.{ℤ, pos, negsuc, negℤ, natAbs}
 use lib.ListN.{length, take, drop}
-use Rattle.rules.specs.Lists.{any, only}
+use Rattle.rules.specs.Lists.{any-passes, only}
 use Rattle.rules.specs.Terms.{Literals, same, in-range, holds, clean, Assignment, upd, lit, sat, Held, State, has, fetch, everything, room}
 use Rattle.rules.specs.Propagation.{Allowed, among, proves}
-use Rattle.rules.specs.Frames.{Frame, ADD, LEARN, FORGET, PROMOTE, DROP, WEAKEN, RESTORE, SAT, UNSAT, Parsed, malformed, framed, parse, number, without, above, needs-group, target, offered, mend, next}
+use Rattle.rules.specs.Frames.{Frame, ADD, LEARN, FORGET, PROMOTE, DROP, WEAKEN, RESTORE, SAT, UNSAT, Parsed, malformed, framed, parse, number, without}
+use Rattle.rules.specs.Frames.{above, needs-group, target, offered, mend, next}
 use Rattle.rules.specs.declared.Verdict.{Verdict}
 use Rattle.rules.specs.declared.Verdict.the-variants.{Proved, BadHint, UsedUp}
 use Rattle.rules.specs.declared.Fault.{Fault}
-use Rattle.rules.specs.declared.Fault.the-variants.{NoState, Malformed, Literal, Id, Unclean, NoWitness, Hint, Unproved, Group, Falsified, Assumption, NoEntry, NoWords}
+use Rattle.rules.specs.declared.Fault.the-variants.{NoState, Malformed, Literal, Id, Unclean, NoWitness, Hint, Unproved, Group, Falsified, Assumption}
+use Rattle.rules.specs.declared.Fault.the-variants.{NoEntry, NoWords}
 use Rattle.rules.specs.declared.Check.{Check}
 use Rattle.rules.specs.declared.Check.the-variants.{Passed, Failed}
 use Rattle.rules.specs.declared.Answer.{Answer}
@@ -165,7 +167,7 @@ check-weaken s i w ws =
     let others = without (s .irredundant) i in
     flaw (s .vars) unseen 3 w then
     held-in (s .irredundant) i then
-    need (any (holds w) c) NoWitness then
+    need (any-passes (holds w) c) NoWitness then
     free-words s (length w) then
     groups (among others) c (holds w) (only (needs-group (holds w)) others) (3 + length w) ws
 
@@ -220,14 +222,14 @@ hands s (SAT assumed vs) = mended (offered vs) (mend (offered vs) (s .stack))
 hands s (UNSAT assumed hints) = untouched
 
 -- how many of the variables 1 to n differ
-unfoldable pub differ : Assignment → Assignment → ℕ → ℕ
-differ α β zero = 0
-differ α β (suc n) = cond (xor (α (suc n)) (β (suc n))) 1 0 + differ α β n
+unfoldable pub differing : Assignment → Assignment → ℕ → ℕ
+differing α β zero = 0
+differing α β (suc n) = cond (xor (α (suc n)) (β (suc n))) 1 0 + differing α β n
 
 -- "SAT: variables changed; else 0"
 abbrev pub changed : ℕ → Handed → ℕ
 changed vars untouched = 0
-changed vars (mended α β) = differ α β vars
+changed vars (mended α β) = differing α β vars
 
 pub record Outcome : Type 0 where
   pub answer : Answer
@@ -245,6 +247,30 @@ outcome-parsed s (framed f) = settled s f (check s f)
 
 unfoldable pub outcome : State → List ℤ → Outcome
 outcome s ws = outcome-parsed s (parse ws)
+
+-- ---- what was written
+
+-- "SAT and UNSAT never write the tables"; the operations 1 to 7 do
+abbrev pub alters : Frame → Bool
+alters (ADD i c) = true
+alters (LEARN i c hints) = true
+alters (FORGET i) = true
+alters (PROMOTE i) = true
+alters (DROP i hints) = true
+alters (WEAKEN i w ws) = true
+alters (RESTORE i) = true
+alters (SAT assumed vs) = false
+alters (UNSAT assumed hints) = false
+
+-- a frame that writes the tables where it is accepted
+abbrev pub is-change : Parsed → Bool
+is-change malformed = false
+is-change (framed f) = alters f
+
+-- an accepted change
+abbrev pub altered : Parsed → Answer → Bool
+altered p (Accepted n) = is-change p
+altered p (Refused e) = false
 
 -- ---- opening
 

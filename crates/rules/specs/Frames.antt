@@ -5,7 +5,7 @@ use Prim.Native.Nat.{ℕ, zero, suc, _+_, _-_}
 use lib.Dec.{eqb, ltb, leb}
 use lib.IntN.{ℤ, pos, negsuc}
 use lib.ListN.{length, getD, take, drop}
-use Rattle.rules.specs.Lists.{any, only}
+use Rattle.rules.specs.Lists.{any-passes, only}
 use Rattle.rules.specs.Terms.{Literals, opposes, Assignment, upd, sat, holds, Held, State, fetch}
 
 -- ---- the table of the nine frames
@@ -61,7 +61,9 @@ drop-row ws = framed-if (positive (word ws 1)) (DROP (number (word ws 1)) (drop 
 
 -- "id, n, n literals, hints"; "id, w, w witness literals, groups"
 abbrev pub listed-row : ℕ → (ℕ → List ℤ → List ℤ → Frame) → List ℤ → Parsed
-listed-row least f ws = let n = number (word ws 2) in framed-if (positive (word ws 1) && counts least (word ws 2) (length ws - 3)) (f (number (word ws 1)) (take n (drop 3 ws)) (drop (3 + n) ws))
+listed-row least f ws =
+    let n = number (word ws 2) in
+    framed-if (positive (word ws 1) && counts least (word ws 2) (length ws - 3)) (f (number (word ws 1)) (take n (drop 3 ws)) (drop (3 + n) ws))
 
 -- "a, a assumptions, true variables ascending"; "a, a assumptions, hints"
 abbrev pub assuming-row : (List ℤ → List ℤ → Frame) → List ℤ → Parsed
@@ -69,7 +71,9 @@ assuming-row f ws = let a = number (word ws 1) in framed-if (counts 0 (word ws 1
 
 -- by the operation's number; there is no operation 0
 abbrev pub rows : List (List ℤ → Parsed)
-rows = (λ ws. malformed) ∷ add-row ∷ listed-row 0 LEARN ∷ id-row FORGET ∷ id-row PROMOTE ∷ drop-row ∷ listed-row 1 WEAKEN ∷ id-row RESTORE ∷ assuming-row SAT ∷ assuming-row UNSAT ∷ []
+rows =
+    (λ ws. malformed) ∷ add-row ∷ listed-row 0 LEARN ∷ id-row FORGET ∷ id-row PROMOTE ∷ drop-row ∷ listed-row 1 WEAKEN ∷ id-row RESTORE ∷ assuming-row SAT ∷
+    assuming-row UNSAT ∷ []
 
 -- "The least word counts are 2, 3, 2, 2, 2, 3, 2, 2, 2": of the operations 1 to 9
 abbrev pub least-words : List ℕ
@@ -102,7 +106,7 @@ place h (x ∷ xs) = cond (ltb (h .id) (x .id)) (h ∷ x ∷ xs) (x ∷ place h 
 
 -- D "holds the opposite of a literal of W and holds no literal of W"
 abbrev pub needs-group : Literals → Held → Bool
-needs-group W D = any (opposes W) (D .lits) && not (any W (D .lits))
+needs-group W D = any-passes (opposes W) (D .lits) && not (any-passes W (D .lits))
 
 -- "The target is C together with D less the opposites of W"
 abbrev pub target : List ℤ → Literals → List ℤ → List ℤ
@@ -147,7 +151,8 @@ next s (LEARN i c hints) = with-places s i (s .irredundant) (place (plain i c) (
 next s (FORGET i) = with-places s (s .highest) (s .irredundant) (without (s .learned) i) (s .stack)
 next s (PROMOTE i) = with-places s (s .highest) (place (plain i (fetch (s .learned) i .lits)) (s .irredundant)) (without (s .learned) i) (s .stack)
 next s (DROP i hints) = with-places s (s .highest) (without (s .irredundant) i) (s .learned) (s .stack)
-next s (WEAKEN i w groups) = with-places s (s .highest) (without (s .irredundant) i) (s .learned) (record { id = i; lits = fetch (s .irredundant) i .lits; witness = w } ∷ s .stack)
+next s (WEAKEN i w groups) =
+    with-places s (s .highest) (without (s .irredundant) i) (s .learned) (record { id = i; lits = fetch (s .irredundant) i .lits; witness = w } ∷ s .stack)
 next s (RESTORE i) = with-places s (s .highest) (place (plain i (fetch (s .stack) i .lits)) (s .irredundant)) (s .learned) (without (s .stack) i)
 next s (SAT assumed vs) = s
 next s (UNSAT assumed hints) = s

@@ -4,8 +4,8 @@ use mathlib.Core.Bool.{Bool, true, false}
 use mathlib.Core.List.{List, [], _∷_, List·Memᴰ}
 use Prim.Native.Nat.{ℕ}
 use lib.IntN.{ℤ}
-use Rattle.rules.specs.Lists.{any, all}
-use Rattle.rules.specs.Terms.{Assignment, lit, sat, holds, mentions, clean, Held, State, everything}
+use Rattle.rules.specs.Lists.{any-passes, all-pass}
+use Rattle.rules.specs.Terms.{is-variable, Assignment, lit, sat, holds, mentions, clean, Held, State, everything}
 use Rattle.rules.specs.Frames.{Frame, ADD, LEARN, FORGET, PROMOTE, DROP, WEAKEN, RESTORE, SAT, UNSAT, Parsed, malformed, framed, parse, mend}
 use Rattle.rules.specs.Answers.{outcome, check-open, opened}
 use Rattle.rules.specs.declared.Check.the-variants.{Passed}
@@ -57,22 +57,22 @@ pub record Reached (h : History) : Type 0 where
 
 -- every held clause has a true literal
 abbrev pub models : Assignment → List Held → Bool
-models α hs = all (λ h. sat α (h .lits)) hs
+models α hs = all-pass (λ h. sat α (h .lits)) hs
 
 -- the assignment satisfies all the clauses; and makes every assumption true
 abbrev pub Models : Assignment → List (List ℤ) → Type 0
-Models α cs = all (sat α) cs ≡ true
+Models α cs = all-pass (sat α) cs ≡ true
 
 abbrev pub Assumes : Assignment → List ℤ → Type 0
-Assumes α assumed = all (lit α) assumed ≡ true
+Assumes α assumed = all-pass (lit α) assumed ≡ true
 
 -- v is no variable of a stacked witness
 abbrev pub Unwitnessed : State → ℕ → Type 0
-Unwitnessed s v = any (λ r. mentions (r .witness) v) (s .stack) ≡ false
+Unwitnessed s v = any-passes (λ r. mentions (r .witness) v) (s .stack) ≡ false
 
 -- no assumption is the opposite of a stacked witness literal
 abbrev pub Unopposed : State → List ℤ → Type 0
-Unopposed s assumed = all (λ r. clean assumed (r .witness)) (s .stack) ≡ true
+Unopposed s assumed = all-pass (λ r. clean assumed (r .witness)) (s .stack) ≡ true
 
 -- ---- answers
 
@@ -87,6 +87,7 @@ pub record Answered (h : History) (assumed : List ℤ) (α β : Assignment) : Ty
   pub of-added : Models β (h .added)
   pub of-assumptions : Assumes β assumed
   pub elsewhere : (v : ℕ) → Unwitnessed (h .state) v → β v ≡ α v
+  pub nowhere-else : (v : ℕ) → is-variable (h .state .vars) v ≡ false → β v ≡ false
   pub of-held : models β (everything (h .state)) ≡ true
   pub mends-to-itself : mend β (h .state .stack) ≡ β
 

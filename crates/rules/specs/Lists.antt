@@ -4,14 +4,14 @@ use mathlib.Core.List.{List, [], _∷_}
 
 module _ {A : Type 0} where
   -- some element passes the test
-  unfoldable pub any : (A → Bool) → List A → Bool
-  any p [] = false
-  any p (x ∷ xs) = p x || any p xs
+  unfoldable pub any-passes : (A → Bool) → List A → Bool
+  any-passes p [] = false
+  any-passes p (x ∷ xs) = p x || any-passes p xs
 
   -- every element passes the test
-  unfoldable pub all : (A → Bool) → List A → Bool
-  all p [] = true
-  all p (x ∷ xs) = p x && all p xs
+  unfoldable pub all-pass : (A → Bool) → List A → Bool
+  all-pass p [] = true
+  all-pass p (x ∷ xs) = p x && all-pass p xs
 
   -- the elements that pass the test, in order
   unfoldable pub only : (A → Bool) → List A → List A

@@ -7,14 +7,14 @@ use lib.IntN.{ℤ, pos, negℤ}
 use Rattle.rules.specs.Terms.{Assignment, State}
 use Rattle.rules.specs.Answers.{numbers, Handed, untouched, mended, outcome, opened}
 
--- a frame's words: n ⊕ puts the word n in front, n ⊖ the word -n
-infixr 30 _⊕_
-abbrev pub _⊕_ : ℕ → List ℤ → List ℤ
-n ⊕ ws = pos n ∷ ws
+-- a frame's words: n ⊞ puts the word n in front, n ⊟ the word -n
+infixr 30 _⊞_
+abbrev pub _⊞_ : ℕ → List ℤ → List ℤ
+n ⊞ ws = pos n ∷ ws
 
-infixr 30 _⊖_
-abbrev pub _⊖_ : ℕ → List ℤ → List ℤ
-n ⊖ ws = negℤ (pos n) ∷ ws
+infixr 30 _⊟_
+abbrev pub _⊟_ : ℕ → List ℤ → List ℤ
+n ⊟ ws = negℤ (pos n) ∷ ws
 
 -- ---- what is said to frames
 
@@ -63,28 +63,29 @@ marked before frames expected = record { before = before; frames = frames; expec
 
 -- "ADD 1 (1 3), ADD 2 (2 -3), LEARN 3 (1 2) hints 1 2, PROMOTE 3, WEAKEN 1 witness 3 with group 2,1,3, WEAKEN 2 witness -3"
 abbrev pub state-E : List (List ℤ)
-state-E = (1 ⊕ 1 ⊕ 1 ⊕ 3 ⊕ []) ∷ (1 ⊕ 2 ⊕ 2 ⊕ 3 ⊖ []) ∷ (2 ⊕ 3 ⊕ 2 ⊕ 1 ⊕ 2 ⊕ 1 ⊕ 2 ⊕ []) ∷ (4 ⊕ 3 ⊕ []) ∷ (6 ⊕ 1 ⊕ 1 ⊕ 3 ⊕ 2 ⊕ 1 ⊕ 3 ⊕ []) ∷ (6 ⊕ 2 ⊕ 1 ⊕ 3 ⊖ []) ∷ []
+state-E =
+    (1 ⊞ 1 ⊞ 1 ⊞ 3 ⊞ []) ∷ (1 ⊞ 2 ⊞ 2 ⊞ 3 ⊟ []) ∷ (2 ⊞ 3 ⊞ 2 ⊞ 1 ⊞ 2 ⊞ 1 ⊞ 2 ⊞ []) ∷ (4 ⊞ 3 ⊞ []) ∷ (6 ⊞ 1 ⊞ 1 ⊞ 3 ⊞ 2 ⊞ 1 ⊞ 3 ⊞ []) ∷ (6 ⊞ 2 ⊞ 1 ⊞ 3 ⊟ []) ∷ []
 
 -- "ADD 1 (1 2), ADD 2 (-2 3), LEARN 3 (1 2) hint 1, WEAKEN 1 witness 1, WEAKEN 2 witness -2, PROMOTE 3"
 abbrev pub state-G : List (List ℤ)
-state-G = (1 ⊕ 1 ⊕ 1 ⊕ 2 ⊕ []) ∷ (1 ⊕ 2 ⊕ 2 ⊖ 3 ⊕ []) ∷ (2 ⊕ 3 ⊕ 2 ⊕ 1 ⊕ 2 ⊕ 1 ⊕ []) ∷ (6 ⊕ 1 ⊕ 1 ⊕ 1 ⊕ []) ∷ (6 ⊕ 2 ⊕ 1 ⊕ 2 ⊖ []) ∷ (4 ⊕ 3 ⊕ []) ∷ []
+state-G = (1 ⊞ 1 ⊞ 1 ⊞ 2 ⊞ []) ∷ (1 ⊞ 2 ⊞ 2 ⊟ 3 ⊞ []) ∷ (2 ⊞ 3 ⊞ 2 ⊞ 1 ⊞ 2 ⊞ 1 ⊞ []) ∷ (6 ⊞ 1 ⊞ 1 ⊞ 1 ⊞ []) ∷ (6 ⊞ 2 ⊞ 1 ⊞ 2 ⊟ []) ∷ (4 ⊞ 3 ⊞ []) ∷ []
 
 unfoldable pub sixteen : List Marked
 sixteen =
     marked [] state-E (says 0 0 ∷ says 0 0 ∷ says 0 0 ∷ says 0 0 ∷ says 0 0 ∷ says 0 0 ∷ [])
-    ∷ marked state-E ((1 ⊕ 4 ⊕ 1 ⊖ []) ∷ []) (says 0 0 ∷ [])
-    ∷ marked state-E ((1 ⊕ 4 ⊕ 3 ⊖ []) ∷ []) (says 5 1 ∷ [])
-    ∷ marked state-E ((7 ⊕ 1 ⊕ []) ∷ []) (says 5 2 ∷ [])
-    ∷ marked state-E ((7 ⊕ 2 ⊕ []) ∷ (7 ⊕ 1 ⊕ []) ∷ []) (says 0 0 ∷ says 0 0 ∷ [])
-    ∷ marked state-E ((8 ⊕ 0 ⊕ 2 ⊕ []) ∷ []) (models-are 1 (2 ∷ 3 ∷ []) ∷ [])
-    ∷ marked state-E ((8 ⊕ 0 ⊕ 1 ⊕ []) ∷ []) (models-are 0 (1 ∷ []) ∷ [])
-    ∷ marked state-E ((8 ⊕ 1 ⊕ 3 ⊖ 2 ⊕ []) ∷ []) (says 5 1 ∷ [])
-    ∷ marked state-E ((8 ⊕ 0 ⊕ []) ∷ []) (says 10 3 ∷ [])
-    ∷ marked state-G ((8 ⊕ 0 ⊕ 2 ⊕ []) ∷ []) (models-are 2 (1 ∷ []) ∷ [])
-    ∷ marked ((1 ⊕ 1 ⊕ 1 ⊕ 3 ⊕ []) ∷ (1 ⊕ 2 ⊕ 2 ⊕ 3 ⊖ []) ∷ []) ((6 ⊕ 1 ⊕ 1 ⊕ 3 ⊕ 2 ⊕ 0 ⊕ []) ∷ []) (says 8 2 ∷ [])
-    ∷ marked ((1 ⊕ 1 ⊕ 1 ⊕ 2 ⊕ []) ∷ (1 ⊕ 2 ⊕ 1 ⊖ 2 ⊖ []) ∷ []) ((6 ⊕ 1 ⊕ 1 ⊕ 1 ⊕ 2 ⊕ 0 ⊕ []) ∷ []) (says 0 0 ∷ [])
-    ∷ marked [] ((9 ⊕ 2 ⊕ 4 ⊕ 4 ⊖ []) ∷ []) (says 0 0 ∷ [])
-    ∷ marked ((1 ⊕ 1 ⊕ []) ∷ []) ((6 ⊕ 1 ⊕ 1 ⊕ 1 ⊕ []) ∷ []) (says 6 0 ∷ [])
-    ∷ marked ((1 ⊕ 1 ⊕ 1 ⊕ 2 ⊕ []) ∷ (2 ⊕ 2 ⊕ 2 ⊕ 1 ⊕ 2 ⊕ 1 ⊕ []) ∷ []) ((5 ⊕ 1 ⊕ 2 ⊕ []) ∷ []) (says 7 2 ∷ [])
-    ∷ marked [] ((1 ⊕ 1 ⊕ 1 ⊕ 1 ⊕ []) ∷ []) (says 3 3 ∷ [])
+    ∷ marked state-E ((1 ⊞ 4 ⊞ 1 ⊟ []) ∷ []) (says 0 0 ∷ [])
+    ∷ marked state-E ((1 ⊞ 4 ⊞ 3 ⊟ []) ∷ []) (says 5 1 ∷ [])
+    ∷ marked state-E ((7 ⊞ 1 ⊞ []) ∷ []) (says 5 2 ∷ [])
+    ∷ marked state-E ((7 ⊞ 2 ⊞ []) ∷ (7 ⊞ 1 ⊞ []) ∷ []) (says 0 0 ∷ says 0 0 ∷ [])
+    ∷ marked state-E ((8 ⊞ 0 ⊞ 2 ⊞ []) ∷ []) (models-are 1 (2 ∷ 3 ∷ []) ∷ [])
+    ∷ marked state-E ((8 ⊞ 0 ⊞ 1 ⊞ []) ∷ []) (models-are 0 (1 ∷ []) ∷ [])
+    ∷ marked state-E ((8 ⊞ 1 ⊞ 3 ⊟ 2 ⊞ []) ∷ []) (says 5 1 ∷ [])
+    ∷ marked state-E ((8 ⊞ 0 ⊞ []) ∷ []) (says 10 3 ∷ [])
+    ∷ marked state-G ((8 ⊞ 0 ⊞ 2 ⊞ []) ∷ []) (models-are 2 (1 ∷ []) ∷ [])
+    ∷ marked ((1 ⊞ 1 ⊞ 1 ⊞ 3 ⊞ []) ∷ (1 ⊞ 2 ⊞ 2 ⊞ 3 ⊟ []) ∷ []) ((6 ⊞ 1 ⊞ 1 ⊞ 3 ⊞ 2 ⊞ 0 ⊞ []) ∷ []) (says 8 2 ∷ [])
+    ∷ marked ((1 ⊞ 1 ⊞ 1 ⊞ 2 ⊞ []) ∷ (1 ⊞ 2 ⊞ 1 ⊟ 2 ⊟ []) ∷ []) ((6 ⊞ 1 ⊞ 1 ⊞ 1 ⊞ 2 ⊞ 0 ⊞ []) ∷ []) (says 0 0 ∷ [])
+    ∷ marked [] ((9 ⊞ 2 ⊞ 4 ⊞ 4 ⊟ []) ∷ []) (says 0 0 ∷ [])
+    ∷ marked ((1 ⊞ 1 ⊞ []) ∷ []) ((6 ⊞ 1 ⊞ 1 ⊞ 1 ⊞ []) ∷ []) (says 6 0 ∷ [])
+    ∷ marked ((1 ⊞ 1 ⊞ 1 ⊞ 2 ⊞ []) ∷ (2 ⊞ 2 ⊞ 2 ⊞ 1 ⊞ 2 ⊞ 1 ⊞ []) ∷ []) ((5 ⊞ 1 ⊞ 2 ⊞ []) ∷ []) (says 7 2 ∷ [])
+    ∷ marked [] ((1 ⊞ 1 ⊞ 1 ⊞ 1 ⊞ []) ∷ []) (says 3 3 ∷ [])
     ∷ []

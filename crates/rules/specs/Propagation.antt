@@ -3,7 +3,7 @@ use mathlib.Core.Bool.{not, cond, _||_}
 use mathlib.Core.List.{List, [], _∷_}
 use Prim.Native.Nat.{ℕ, _+_}
 use lib.IntN.{ℤ, pos, negsuc, negℤ}
-use Rattle.rules.specs.Lists.{any, only}
+use Rattle.rules.specs.Lists.{any-passes, only}
 use Rattle.rules.specs.Terms.{Literals, same, holds, opposes, Held, has, fetch}
 use Rattle.rules.specs.declared.Verdict.{Verdict}
 use Rattle.rules.specs.declared.Verdict.the-variants.{Proved, BadHint, UsedUp}
@@ -29,22 +29,23 @@ named A (negsuc n) = nobody
 
 -- ---- one hint, where F is the set of the false literals
 
-pub data Reading : Type 0 where
-  conflict : Reading
-  forced : ℤ → Reading
-  bad : Reading
+pub data Looked : Type 0 where
+  conflict : Looked
+  forced : ℤ → Looked
+  bad : Looked
 
--- by the literals that are not false. "all literals of the clause false: proved"; "exactly one literal open and all others false: that literal becomes true"; "anything else (a true literal, or two open): refusal 7"
-abbrev pub reading : Literals → List ℤ → Reading
+-- by the literals that are not false. "all literals of the clause false: proved"; "exactly one literal open and all others false: that literal becomes true";
+-- "anything else (a true literal, or two open): refusal 7"
+abbrev pub reading : Literals → List ℤ → Looked
 reading F [] = conflict
 reading F (u ∷ []) = cond (opposes F u) bad (forced u)
 reading F (u ∷ v ∷ more) = bad
 
-unfoldable pub read : Literals → List ℤ → Reading
+unfoldable pub read : Literals → List ℤ → Looked
 read F c = reading F (only (λ l. not (F l)) c)
 
 -- "id not in the allowed set: refusal 7"
-abbrev pub judge : Literals → Named → Reading
+abbrev pub judge : Literals → Named → Looked
 judge F nobody = bad
 judge F (clause c) = read F c
 
@@ -62,7 +63,7 @@ ended v F = record { verdict = v; falses = F }
 abbrev pub also : ℤ → Literals → Literals
 also l F m = same l m || F m
 
-abbrev pub after : Reading → ℕ → Literals → (ℤ → Run) → Run
+abbrev pub after : Looked → ℕ → Literals → (ℤ → Run) → Run
 after conflict n F go-on = ended (Proved (n + 1)) F
 after (forced u) n F go-on = go-on u
 after bad n F go-on = ended (BadHint n) F
@@ -74,4 +75,4 @@ run A F n (h ∷ hints) = after (judge F (named A h)) n F (λ u. run A (also (ne
 
 -- "If the target holds a literal and its opposite, it is proved and no hint is read. Else its literals are false and other variables are open."
 unfoldable pub proves : Allowed → List ℤ → List ℤ → Verdict
-proves A target hints = cond (any (opposes (holds target)) target) (Proved 0) (run A (holds target) 0 hints .verdict)
+proves A target hints = cond (any-passes (opposes (holds target)) target) (Proved 0) (run A (holds target) 0 hints .verdict)

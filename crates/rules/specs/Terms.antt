@@ -6,16 +6,20 @@ use Prim.Native.Nat.{ℕ, zero, suc, _+_, _≤_}
 use lib.Dec.{eqb, ltb, leb}
 use lib.IntN.{ℤ, pos, negsuc, natAbs}
 use lib.ListN.{length}
-use Rattle.rules.specs.Lists.{any, all}
+use Rattle.rules.specs.Lists.{any-passes, all-pass}
 
 -- ---- literals and clauses
 
--- "Variables are 1 to V. .. A literal is v or -v." A literal is a word, its variable natAbs. 0 is no literal: no assignment makes it true, and it has no opposite.
+-- "Variables are 1 to V. .. A literal is v or -v." A literal is a word, its variable natAbs. 0 is no literal: no assignment makes it true, and it has no
+-- opposite.
 abbrev pub same : ℤ → ℤ → Bool
 same (pos a) (pos b) = eqb a b
 same (pos a) (negsuc b) = false
 same (negsuc a) (pos b) = false
 same (negsuc a) (negsuc b) = eqb a b
+
+abbrev pub is-variable : ℕ → ℕ → Bool
+is-variable vars v = ltb 0 v && leb v vars
 
 abbrev pub in-range : ℕ → ℤ → Bool
 in-range vars (pos zero) = false
@@ -28,7 +32,7 @@ Literals = ℤ → Bool
 
 -- the literals of a list
 abbrev pub holds : List ℤ → Literals
-holds c l = any (λ m. same m l) c
+holds c l = any-passes (λ m. same m l) c
 
 -- the literals whose opposite is in the set
 abbrev pub opposes : Literals → Literals
@@ -38,7 +42,7 @@ opposes S (negsuc n) = S (pos (suc n))
 
 -- v is the variable of a literal of the list
 abbrev pub mentions : List ℤ → ℕ → Bool
-mentions c v = any (λ l. eqb (natAbs l) v) c
+mentions c v = any-passes (λ l. eqb (natAbs l) v) c
 
 -- "no variable occurs twice, with either sign"
 unfoldable pub distinct : List ℤ → Bool
@@ -47,15 +51,15 @@ distinct (l ∷ c) = not (mentions c (natAbs l)) && distinct c
 
 -- "A clause is a list of 0 to 256 literals in which no variable occurs twice, with either sign."
 unfoldable pub is-clause : ℕ → List ℤ → Bool
-is-clause vars c = leb (length c) 256 && (all (in-range vars) c && distinct c)
+is-clause vars c = leb (length c) 256 && (all-pass (in-range vars) c && distinct c)
 
 -- a record's "witness: 1 to 256 literals, no variable twice, at least one of them in the clause"; so it is not empty
 unfoldable pub is-witness : ℕ → List ℤ → List ℤ → Bool
-is-witness vars c w = is-clause vars w && any (holds w) c
+is-witness vars c w = is-clause vars w && any-passes (holds w) c
 
 -- "A clause is *clean* against a record when it holds no literal whose opposite is in the witness. A single literal is judged as a clause of one."
 abbrev pub clean : List ℤ → List ℤ → Bool
-clean c w = all (λ l. not (opposes (holds w) l)) c
+clean c w = all-pass (λ l. not (opposes (holds w) l)) c
 
 -- ---- assignments
 
@@ -74,7 +78,7 @@ lit α (negsuc n) = not (α (suc n))
 
 -- the clause holds a true literal
 abbrev pub sat : Assignment → List ℤ → Bool
-sat α c = any (lit α) c
+sat α c = any-passes (lit α) c
 
 -- ---- states
 
@@ -84,7 +88,8 @@ pub record Held : Type 0 where
   pub lits : List ℤ
   pub witness : List ℤ
 
--- "A state has three places": irredundant and learned are kept by rising id, the stack from its top. V, the highest id accepted and the lent sizes go with them.
+-- "A state has three places": irredundant and learned are kept by rising id, the stack from its top. V, the highest id accepted and the lent sizes go with
+-- them.
 pub record State : Type 0 where
   pub vars : ℕ
   pub highest : ℕ
@@ -96,7 +101,7 @@ pub record State : Type 0 where
 
 -- a clause of this id is in the place, and which
 abbrev pub has : List Held → ℕ → Bool
-has hs i = any (λ h. eqb (h .id) i) hs
+has hs i = any-passes (λ h. eqb (h .id) i) hs
 
 abbrev pub nothing : Held
 nothing = record { id = 0; lits = []; witness = [] }
@@ -127,7 +132,7 @@ tally i (h ∷ hs) = cond (eqb (h .id) i) 1 0 + tally i hs
 -- by rising id
 unfoldable pub rising : List Held → Bool
 rising [] = true
-rising (h ∷ hs) = all (λ x. ltb (h .id) (x .id)) hs && rising hs
+rising (h ∷ hs) = all-pass (λ x. ltb (h .id) (x .id)) hs && rising hs
 
 -- "positive and not above the highest accepted"
 unfoldable pub is-id : ℕ → Held → Bool
@@ -144,10 +149,10 @@ is-record vars r = is-clause vars (r .lits) && is-witness vars (r .lits) (r .wit
 pub record Terms (s : State) : Type 0 where
   pub vars-in-range : (ltb 0 (s .vars) && leb (s .vars) 2048) ≡ true
   pub ids-distinct : (i : ℕ) → tally i (everything s) ≤ 1
-  pub ids-in-range : all (is-id (s .highest)) (everything s) ≡ true
-  pub irredundant : all (is-plain (s .vars)) (s .irredundant) ≡ true
-  pub learned : all (is-plain (s .vars)) (s .learned) ≡ true
-  pub stack : all (is-record (s .vars)) (s .stack) ≡ true
+  pub ids-in-range : all-pass (is-id (s .highest)) (everything s) ≡ true
+  pub irredundant : all-pass (is-plain (s .vars)) (s .irredundant) ≡ true
+  pub learned : all-pass (is-plain (s .vars)) (s .learned) ≡ true
+  pub stack : all-pass (is-record (s .vars)) (s .stack) ≡ true
   pub irredundant-rising : rising (s .irredundant) ≡ true
   pub learned-rising : rising (s .learned) ≡ true
   pub within-entries : length (everything s) ≤ s .entries

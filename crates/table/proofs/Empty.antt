@@ -31,7 +31,16 @@ module _ (vars : ℕ) (rows : List Row) (pool : List ℤ) (stack : List ℕ) whe
     pool-fit = omega arith;
     stack-fit = omega arith;
     gone-fit = refl;
-    core = record { rising = alone; known = none; inside = none; apart = alone; lawful = none; counted = refl; listed = record { each = none; once = alone; whole = refl } };
+    core =
+        record {
+          rising = alone;
+          known = none;
+          inside = none;
+          apart = alone;
+          lawful = none;
+          counted = refl;
+          listed = record { each = none; once = alone; whole = refl };
+        };
   }
 
   pub empty-spelled : spelled (empty vars (length rows)) rows pool stack ≡ opened vars (length rows) (length pool)

@@ -1,18 +1,12 @@
 -- Laws of a fact of each element, and of every two. Nothing here knows of clauses.
-use mathlib.Core.Path.{_≡_, refl, sym, subst}
+use mathlib.Core.Path.{_≡_, refl}
 use mathlib.Core.List.{List, [], _∷_, _++_, map, reverse, reverse-cons}
 use Prim.Native.Nat.{ℕ, zero, suc, _+_, _<_, _≤_}
 use native.Mathlib.Omega.{arith}
 use native.Mathlib.Nat.{le-of-suc-le-suc, not-suc-le-zero}
-use lib.Dec.{eqb}
 use lib.ListN.{length, getD, drop, drop-of-length-le}
-use borrow.Author.Tests.{eqb-true, eqb-false}
-use Rattle.rules.proofs.Lists.{by-cases, from-index}
+use Rattle.rules.proofs.Lists.{from-index}
 use Rattle.table.specs.Facts.{All, none, both, Pairs, alone, ahead, total}
-
--- a fact of the numbers below, and of one more
-pub below-next : {P : ℕ → Type 0} (k : ℕ) → ((j : ℕ) → j < k → P j) → P k → (j : ℕ) → j < k + 1 → P j
-below-next {P} k f p j h = by-cases (eqb j k) (λ e. subst P (sym (eqb-true j k e)) p) (λ e. let n = eqb-false j k e in f j (omega arith))
 
 -- ---- each element
 
@@ -57,7 +51,9 @@ module _ {A : Type 0} {P : A → Type 0} where
 
   pub all-unreverse : (xs : List A) → All P (reverse xs) → All P xs
   all-unreverse [] a = none
-  all-unreverse (x ∷ xs) a = let b : All P (reverse xs ++ (x ∷ [])) = rw (reverse-cons x xs) at a in both (all-here (reverse xs) x [] b) (all-unreverse xs (all-left (reverse xs) (x ∷ []) b))
+  all-unreverse (x ∷ xs) a =
+      let b : All P (reverse xs ++ (x ∷ [])) = rw (reverse-cons x xs) at a in
+      both (all-here (reverse xs) x [] b) (all-unreverse xs (all-left (reverse xs) (x ∷ []) b))
 
   pub all-more : {Q : A → Type 0} {xs : List A} → ((x : A) → P x → Q x) → All P xs → All Q xs
   all-more f none = none

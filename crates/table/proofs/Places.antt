@@ -7,15 +7,15 @@ use native.Mathlib.Omega.{arith}
 use lib.Dec.{eqb, ltb}
 use lib.ListN.{length}
 use borrow.Author.Tests.{ltb-true, eqb-true, lt-ltb, eq-eqb}
-use Rattle.rules.specs.Lists.{any, all}
+use Rattle.rules.specs.Lists.{any-passes, all-pass}
 use Rattle.rules.specs.Terms.{Held, has, room, tally, rising}
 use Rattle.rules.specs.Frames.{without, place}
 use Rattle.rules.proofs.Lists.{by-cases, all-head}
 use Rattle.rules.proofs.Places.{later, tally-place, length-place, room-place, rising-each, rising-place}
-use Rattle.table.specs.Spelled.{settled}
+use Rattle.table.specs.Spelled.{by-id}
 
 has-place : (x : Held) (hs : List Held) (i : ℕ) → has (place x hs) i ≡ (eqb (x .id) i || has hs i)
-unfolding place any
+unfolding place any-passes
 has-place x [] i = refl
 has-place x (h ∷ hs) i =
     let r = has-place x hs i in
@@ -35,7 +35,7 @@ without-placed x (h ∷ hs) n =
     (λ q. let r = without-placed x hs (omega arith) in rw (e, q, r)))
 
 -- a clause earlier than the first of them comes first
-place-front : (x h : Held) (hs : List Held) → later x h ≡ true → all (later h) hs ≡ true → place x hs ≡ x ∷ hs
+place-front : (x h : Held) (hs : List Held) → later x h ≡ true → all-pass (later h) hs ≡ true → place x hs ≡ x ∷ hs
 unfolding place
 place-front x h [] e a = refl
 place-front x h (y ∷ hs) e a =
@@ -56,47 +56,47 @@ without-other x (h ∷ hs) i s n =
 
 -- ---- clauses brought to rising id
 
-pub has-settled : (hs : List Held) (i : ℕ) → has (settled hs) i ≡ has hs i
-unfolding any
+pub has-settled : (hs : List Held) (i : ℕ) → has (by-id hs) i ≡ has hs i
+unfolding any-passes
 has-settled [] i = refl
-has-settled (h ∷ hs) i = let r = has-settled hs i in has-place h (settled hs) i ∙ rw r
+has-settled (h ∷ hs) i = let r = has-settled hs i in has-place h (by-id hs) i ∙ rw r
 
-pub length-settled : (hs : List Held) → length (settled hs) ≡ length hs
+pub length-settled : (hs : List Held) → length (by-id hs) ≡ length hs
 length-settled [] = refl
-length-settled (h ∷ hs) = omega (arith, length-place h (settled hs), length-settled hs)
+length-settled (h ∷ hs) = omega (arith, length-place h (by-id hs), length-settled hs)
 
-pub room-settled : (hs : List Held) → room (settled hs) ≡ room hs
+pub room-settled : (hs : List Held) → room (by-id hs) ≡ room hs
 unfolding room
 room-settled [] = refl
-room-settled (h ∷ hs) = omega (arith, room-place h (settled hs), room-settled hs)
+room-settled (h ∷ hs) = omega (arith, room-place h (by-id hs), room-settled hs)
 
-tally-settled : (i : ℕ) (hs : List Held) → tally i (settled hs) ≡ tally i hs
+pub tally-settled : (i : ℕ) (hs : List Held) → tally i (by-id hs) ≡ tally i hs
 unfolding tally
 tally-settled i [] = refl
-tally-settled i (h ∷ hs) = omega (arith, tally-place i h (settled hs), tally-settled i hs)
+tally-settled i (h ∷ hs) = omega (arith, tally-place i h (by-id hs), tally-settled i hs)
 
 -- no id twice
 abbrev pub Single : List Held → Type 0
 Single hs = (i : ℕ) → tally i hs ≤ 1
 
-single-each : (h : Held) (hs : List Held) → Single (h ∷ hs) → (tally (h .id) (settled hs) ≡ 0) × Single hs
+single-each : (h : Held) (hs : List Held) → Single (h ∷ hs) → (tally (h .id) (by-id hs) ≡ 0) × Single hs
 unfolding tally
 single-each h hs s =
     let self = eq-eqb (h .id) (h .id) refl in
     let n : 1 + tally (h .id) hs ≤ 1 = rw self at (s (h .id)) in
     (omega (arith, tally-settled (h .id) hs), λ i. let m = s i in omega arith)
 
-rising-settled : (hs : List Held) → Single hs → rising (settled hs) ≡ true
+rising-settled : (hs : List Held) → Single hs → rising (by-id hs) ≡ true
 unfolding rising
 rising-settled [] s = refl
-rising-settled (h ∷ hs) s = let t = single-each h hs s in rising-place h (settled hs) (t .0) (rising-settled hs (t .1))
+rising-settled (h ∷ hs) s = let t = single-each h hs s in rising-place h (by-id hs) (t .0) (rising-settled hs (t .1))
 
-pub settled-without : (hs : List Held) (i : ℕ) → Single hs → settled (without hs i) ≡ without (settled hs) i
+pub settled-without : (hs : List Held) (i : ℕ) → Single hs → by-id (without hs i) ≡ without (by-id hs) i
 unfolding without
 settled-without [] i s = refl
 settled-without (h ∷ hs) i s =
     let t = single-each h hs s in
     let r = settled-without hs i (t .1) in
     by-cases (eqb (h .id) i)
-    (λ e. let q = eqb-true (h .id) i e in let w = without-placed h (settled hs) (t .0) in rw e (sym w ∙ rw q))
-    (λ e. let w = without-other h (settled hs) i (rising-settled hs (t .1)) e in rw (e, w, r))
+    (λ e. let q = eqb-true (h .id) i e in let w = without-placed h (by-id hs) (t .0) in rw e (sym w ∙ rw q))
+    (λ e. let w = without-other h (by-id hs) i (rising-settled hs (t .1)) e in rw (e, w, r))

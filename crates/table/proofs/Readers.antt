@@ -1,6 +1,6 @@
 -- What readers may lean on: the counts, what was found at a row, and that clauses and witnesses obey Terms.
 use mathlib.Core.Path.{_≡_, refl, sym, _∙_, ap, subst}
-use mathlib.Core.Bool.{true, false, cond}
+use mathlib.Core.Bool.{true, cond}
 use mathlib.Core.List.{List, [], _∷_, _++_, map, reverse, reverse-append}
 use Prim.Native.Nat.{ℕ, zero, suc, _+_, _-_, _<_, _≤_}
 use native.Mathlib.Omega.{arith}
@@ -10,37 +10,40 @@ use lib.IntN.{ℤ, pos, negsuc}
 use lib.ListN.{length, getD, take, length-append, length-map, length-reverse}
 use lib.Seq.{length-take-le, getD-take, take-suc}
 use borrow.Author.Tests.{ltb-true, lt-ltb, eq-eqb}
-use Rattle.rules.specs.Lists.{all, only}
+use Rattle.rules.specs.Lists.{all-pass, only}
 use Rattle.rules.specs.Terms.{in-range, distinct, is-clause, Held, State, has, fetch, everything, room}
 use Rattle.rules.specs.Answers.{need, free-entry, free-words}
 use Rattle.rules.specs.declared.Fault.the-variants.{NoEntry, NoWords}
 use Rattle.rules.proofs.Lists.{by-cases, and-left, and-right, all-at, all-of}
 use Rattle.rules.proofs.Places.{words-of, length-without, room-append}
-use Rattle.slices.specs.Writes.{Among}
-use Rattle.slices.proofs.Slices.{in-reverse, among-of}
+use Rattle.table_slices.specs.Writes.{Among}
+use Rattle.table_slices.proofs.Slices.{in-reverse, among-of}
 use Rattle.table.specs.Facts.{All, none, both, total}
-use Rattle.table.specs.Spelled.{Row, row-at, id-of, place-of, size, held, stands, clauses, held-rows, from-top, spelled, Inside, Lawful, gone-one, Fit, Readable, Located}
+use Rattle.table.specs.Spelled.{Row, row-at, id-of, place-of, size, held, stands, clauses, held-rows, from-top, spelled, Inside, Lawful, gone-one, Fit}
+use Rattle.table.specs.Spelled.{Readable}
 use Rattle.table.specs.declared.Table.{Table}
-use Rattle.table.specs.declared.Found.the-variants.{Nothing}
 use Rattle.table.proofs.Facts.{all-index, all-unreverse, all-more}
 use Rattle.table.proofs.Places.{length-settled, room-settled}
 use Rattle.table.proofs.Finding as finding
-use Rattle.table.proofs.Stacked.{listed-has, listed-in, listed-fetch}
+use Rattle.table.proofs.Stacked.{listed-in}
 use Rattle.table.proofs.Rows.{clause-length, witness-length, lawful-placed, lawful-clause, lawful-witness, lawful-gone, clause-short}
 
 -- ---- each row stands in one of the three places, or is gone: a number of each, summed over the places, is summed over the rows
 
-module _ (f : Held → ℕ) (sum : List Held → ℕ) (sum-nil : sum [] ≡ 0) (sum-cons : (h : Held) (hs : List Held) → sum (h ∷ hs) ≡ f h + sum hs) (pool : List ℤ) where
+module _ (f : Held → ℕ) (sum : List Held → ℕ) (sum-nil : sum [] ≡ 0) (sum-cons : (h : Held) (hs : List Held) → sum (h ∷ hs) ≡ f h + sum hs)
+    (pool : List ℤ) where
   -- the clauses of the place p, where the row r that stands in q comes first
   abbrev seen : Row → ℕ → ℕ → List Row → List Held
   seen r q p rows = map (held pool) (cond (eqb q p) (r ∷ only (stands p) rows) (only (stands p) rows))
 
-  over-places : (rows : List Row) → All (λ r. place-of r ≤ 3) rows → sum (clauses 0 pool rows) + sum (clauses 1 pool rows) + sum (clauses 2 pool rows) + sum (clauses 3 pool rows) ≡ total (λ r. f (held pool r)) rows
+  pub over-places : (rows : List Row) → All (λ r. place-of r ≤ 3) rows →
+      sum (clauses 0 pool rows) + sum (clauses 1 pool rows) + sum (clauses 2 pool rows) + sum (clauses 3 pool rows) ≡ total (λ r. f (held pool r)) rows
   unfolding only
   over-places [] none = rw sum-nil
   over-places (r ∷ rows) (both p a) = one (place-of r) p (over-places rows a)
     where
-      one : (q : ℕ) → q ≤ 3 → sum (clauses 0 pool rows) + sum (clauses 1 pool rows) + sum (clauses 2 pool rows) + sum (clauses 3 pool rows) ≡ total (λ x. f (held pool x)) rows
+      one : (q : ℕ) → q ≤ 3 → sum (clauses 0 pool rows) + sum (clauses 1 pool rows) + sum (clauses 2 pool rows) + sum (clauses 3 pool rows) ≡ total
+          (λ x. f (held pool x)) rows
           → sum (seen r q 0 rows) + sum (seen r q 1 rows) + sum (seen r q 2 rows) + sum (seen r q 3 rows) ≡ f (held pool r) + total (λ x. f (held pool x)) rows
       one zero h i = omega (arith, sum-cons (held pool r) (clauses 0 pool rows))
       one (suc zero) h i = omega (arith, sum-cons (held pool r) (clauses 1 pool rows))
@@ -75,7 +78,8 @@ gone-room : (vars : ℕ) (pool : List ℤ) {rows : List Row} → All (λ r. Lawf
 unfolding only
 gone-room vars pool none = room-nil
 gone-room vars pool (both {x} {xs} l a) = by-cases (stands 3 x)
-    (λ e. let w = lawful-gone vars (place-of x) (held pool x) e l in rw e (omega (arith, room-cons (held pool x) (clauses 3 pool xs), ap length (w .0), ap length (w .1), gone-room vars pool a)))
+    (λ e. let w = lawful-gone vars (place-of x) (held pool x) e l in
+    rw e (omega (arith, room-cons (held pool x) (clauses 3 pool xs), ap length (w .0), ap length (w .1), gone-room vars pool a)))
     (λ e. rw e (gone-room vars pool a))
 
 -- ---- literals within V are within 2,048
@@ -85,10 +89,10 @@ in-range-more v n (pos zero) h r = r
 in-range-more v n (pos (suc k)) h r = let q = ltb-true k v r in lt-ltb k n (omega arith)
 in-range-more v n (negsuc k) h r = let q = ltb-true k v r in lt-ltb k n (omega arith)
 
-pub clause-ranged : (v : ℕ) (c : List ℤ) → v ≤ 2048 → is-clause v c ≡ true → all (in-range 2048) c ≡ true
+pub clause-ranged : (v : ℕ) (c : List ℤ) → v ≤ 2048 → is-clause v c ≡ true → all-pass (in-range 2048) c ≡ true
 unfolding is-clause
 clause-ranged v c h k =
-    let r = and-left (all (in-range v) c) (distinct c) (and-right (leb (length c) 256) _ k) in
+    let r = and-left (all-pass (in-range v) c) (distinct c) (and-right (leb (length c) 256) _ k) in
     all-of _ c (λ l m. in-range-more v 2048 l h (all-at _ r m))
 
 -- ---- the ids below an index of the stack, from the top
@@ -124,24 +128,27 @@ module _ {t : Table} {rows : List Row} {pool : List ℤ} {stack : List ℕ} (f :
     short = λ k h.
         let r = row-at rs k in
         let i = all-index in-pool k [] h in
-        let l = all-index (f .core .lawful) k [] h in
-        (omega (arith, clause-length pool r i, clause-short (t .vars) _ (lawful-clause (t .vars) _ _ l)), omega (arith, witness-length pool r i, clause-short (t .vars) _ (lawful-witness (t .vars) _ _ l)));
+        let l = all-index (f .core .lawful) k [] h in (
+          omega (arith, clause-length pool r i, clause-short (t .vars) _ (lawful-clause (t .vars) _ _ l)),
+          omega (arith, witness-length pool r i, clause-short (t .vars) _ (lawful-witness (t .vars) _ _ l)),
+        );
   }
 
   -- ---- counts
 
-  placed : All (λ r. place-of r ≤ 3) rs
+  pub placed : All (λ r. place-of r ≤ 3) rs
   placed = all-more (λ r l. lawful-placed (t .vars) (place-of r) (held pool r) l) (f .core .lawful)
 
   -- the stack is as deep as there are stacked clauses
   depth-held : length (s .stack) ≡ length (clauses 2 pool rs)
   depth-held = sym (length-settled (s .stack)) ∙ ap length (f .core .listed .whole)
 
-  depth-is : length (s .stack) ≡ t .depth
+  pub depth-is : length (s .stack) ≡ t .depth
   depth-is = length-map (from-top t stack) _ ∙ length-reverse (take (t .depth) stack) ∙ length-take-le (t .depth) stack (f .stack-fit)
 
   count-places : length (clauses 0 pool rs) + length (clauses 1 pool rs) + length (clauses 2 pool rs) + t .gone ≡ t .count
-  count-places = omega (arith, over-places (λ h. 1) length refl (λ h hs. omega arith) pool rs placed, total-ones rs, count-rows, gone-length pool rs, f .gone-fit)
+  count-places =
+      omega (arith, over-places (λ h. 1) length refl (λ h hs. omega arith) pool rs placed, total-ones rs, count-rows, gone-length pool rs, f .gone-fit)
 
   pub gone-most : t .gone ≤ t .count
   gone-most = omega (arith, count-places)
@@ -173,9 +180,6 @@ module _ {t : Table} {rows : List Row} {pool : List ℤ} {stack : List ℕ} (f :
 
   -- ---- what was found
 
-  pub nowhere : (i : ℕ) → Located rs i Nothing → (p : ℕ) → has (clauses p pool rs) i ≡ false
-  nowhere = finding.nowhere pool rs
-
   module _ (k : ℕ) (h : k < length rs) where
     abbrev r : Row
     r = row-at rs k
@@ -185,12 +189,6 @@ module _ {t : Table} {rows : List Row} {pool : List ℤ} {stack : List ℕ} (f :
 
     pub fetch-at : (p : ℕ) → place-of r ≡ p → fetch (clauses p pool rs) (id-of r) ≡ held pool r
     fetch-at = finding.fetch-at pool rs (f .core .rising) k h
-
-    pub stack-has-at : has (s .stack) (id-of r) ≡ stands 2 r
-    stack-has-at = listed-has (f .core .listed) (id-of r) ∙ has-at 2
-
-    pub stack-fetch-at : place-of r ≡ 2 → fetch (s .stack) (id-of r) ≡ held pool r
-    stack-fetch-at q = listed-fetch (f .core .listed) (id-of r) (has-at 2 ∙ eq-eqb (place-of r) 2 q) ∙ fetch-at 2 q
 
     stacked-row : place-of r ≡ 2 → Among stack (t .depth) (id-of r)
     stacked-row q = among-of (t .depth) stack (in-reverse _ (listed-in (f .core .listed) (id-of r) (has-at 2 ∙ eq-eqb (place-of r) 2 q)))
@@ -212,9 +210,6 @@ module _ {t : Table} {rows : List Row} {pool : List ℤ} {stack : List ℕ} (f :
     row-stacked = subst (λ x. place-of x ≡ 2 → Among stack (t .depth) (id-of x)) (row-same at h) (stacked-row at held-at)
 
   -- ---- the stack
-
-  pub stack-nowhere : (i : ℕ) → Located rs i Nothing → has (s .stack) i ≡ false
-  stack-nowhere i n = listed-has (f .core .listed) i ∙ nowhere i n 2
 
   -- each id on it names a stacked clause
   pub stacked-at : (j : ℕ) → j < t .depth → has (clauses 2 pool rs) (getD stack j 0) ≡ true

@@ -7,12 +7,12 @@ use lib.IntN.{ℤ}
 use lib.ListN.{length}
 use Rattle.rules.specs.Terms.{State, fetch}
 use Rattle.table.specs.Facts.{total}
-use Rattle.table.specs.Spelled.{Row, held-rows, from-top, spelled, Core, gone-one, Fit, Entry, entry}
+use Rattle.table.specs.Spelled.{Row, held-rows, from-top, spelled, Core, gone-one, Fit, InPlace, in-place}
 use Rattle.table.specs.declared.Table.{Table}
 use Rattle.table.proofs.Entries.{spell, clauses-spell}
 
 -- the state that entries by rising id and the ids of the stack, from the top, spell
-abbrev pub state-of : ℕ → ℕ → ℕ → ℕ → List Entry → List ℕ → State
+abbrev pub state-of : ℕ → ℕ → ℕ → ℕ → List InPlace → List ℕ → State
 state-of vars highest entries words es ids = record {
   vars = vars;
   highest = highest;
@@ -23,7 +23,8 @@ state-of vars highest entries words es ids = record {
   stack = map (fetch (spell 2 es)) ids;
 }
 
-pub spelled-is : (t : Table) (rows : List Row) (pool : List ℤ) (stack : List ℕ) → spelled t rows pool stack ≡ state-of (t .vars) (t .highest) (t .entries) (length pool) (map (entry pool) (held-rows t rows)) (from-top t stack)
+pub spelled-is : (t : Table) (rows : List Row) (pool : List ℤ) (stack : List ℕ) →
+    spelled t rows pool stack ≡ state-of (t .vars) (t .highest) (t .entries) (length pool) (map (in-place pool) (held-rows t rows)) (from-top t stack)
 spelled-is t rows pool stack =
     let a = clauses-spell 0 pool (held-rows t rows) in
     let b = clauses-spell 1 pool (held-rows t rows) in
@@ -32,8 +33,10 @@ spelled-is t rows pool stack =
 
 module _ {t : Table} {rows : List Row} {pool : List ℤ} {stack : List ℕ} (f : Fit t rows pool stack) where
   -- the lent slices are as long as they were, and V and the number of entries are what they were
-  pub refit : {t′ : Table} {rows′ : List Row} {pool′ : List ℤ} {stack′ : List ℕ} → t′ .vars ≡ t .vars → t′ .entries ≡ t .entries → t′ .highest ≤ 2147483647 → length rows′ ≡ length rows → length pool′ ≡ length pool → length stack′ ≡ length stack →
-      t′ .count ≤ length rows → t′ .count ≤ t .entries + t′ .gone → t′ .top ≤ length pool → t′ .depth ≤ length stack → t′ .gone ≡ total gone-one (held-rows t′ rows′) →
+  pub refit : {t′ : Table} {rows′ : List Row} {pool′ : List ℤ} {stack′ : List ℕ} → t′ .vars ≡ t .vars → t′ .entries ≡ t .entries → t′ .highest ≤ 2147483647 →
+      length rows′ ≡ length rows → length pool′ ≡ length pool → length stack′ ≡ length stack →
+      t′ .count ≤ length rows → t′ .count ≤ t .entries + t′ .gone → t′ .top ≤ length pool → t′ .depth ≤ length stack →
+      t′ .gone ≡ total gone-one (held-rows t′ rows′) →
       Core (t .vars) (t′ .highest) (t′ .top) (t′ .words) (held-rows t′ rows′) pool′ (from-top t′ stack′) → Fit t′ rows′ pool′ stack′
   refit e d i a b c x m y z n k =
       let v = f .vars-fit in

@@ -6,13 +6,13 @@ use Prim.Native.Nat.{ℕ}
 use native.Mathlib.Omega.{arith}
 use lib.Dec.{eqb}
 use borrow.Author.Tests.{eqb-true, eq-eqb, ne-eqb}
-use Rattle.rules.specs.Lists.{any}
+use Rattle.rules.specs.Lists.{any-passes}
 use Rattle.rules.specs.Terms.{Held, has, fetch, tally}
 use Rattle.rules.specs.Frames.{without}
 use Rattle.rules.proofs.Lists.{by-cases, true-false}
 use Rattle.rules.proofs.Places.{fetch-id}
 use Rattle.table.specs.Facts.{All, none, both, Pairs, alone, ahead}
-use Rattle.table.specs.Spelled.{settled, Listed, Entry}
+use Rattle.table.specs.Spelled.{by-id, Listed, InPlace}
 use Rattle.table.proofs.Facts.{all-join, all-cut, all-more, all-both, map-same, pairs-before, pairs-after, pairs-cut}
 use Rattle.table.proofs.Places.{has-settled, Single, settled-without}
 use Rattle.table.proofs.Entries.{spell, Before, After, spell-comes, spell-goes, fetch-here, fetch-other, has-here, has-other, has-none}
@@ -24,7 +24,7 @@ module _ (F : ℕ → Held) where
   Named ids = All (λ j. F j .id ≡ j) ids
 
   fetch-named : (ids : List ℕ) (i : ℕ) → Named ids → has (map F ids) i ≡ true → fetch (map F ids) i ≡ F i
-  unfolding any fetch
+  unfolding any-passes fetch
   fetch-named [] i none h = absurd (false≢true h)
   fetch-named (j ∷ ids) i (both p a) h = by-cases (eqb (F j .id) i)
       (λ e. rw e (ap F (sym p ∙ eqb-true (F j .id) i e)))
@@ -47,8 +47,12 @@ module _ (F : ℕ → Held) where
       (λ e. let q : x ≡ i = sym p ∙ eqb-true (F x .id) i e in rw e (omega (arith, tally-absent xs i a (rw q at d))))
       (λ e. rw e (omega (arith, single-named a o i)))
 
+  names : {ids : List ℕ} → Named ids → map (λ (h : Held). h .id) (map F ids) ≡ ids
+  names none = refl
+  names (both {x} p a) = let r = names a in rw (p, r)
+
   named-in : (ids : List ℕ) (i : ℕ) → Named ids → has (map F ids) i ≡ true → List·Memᴰ i ids
-  unfolding any
+  unfolding any-passes
   named-in [] i none h = absurd (false≢true h)
   named-in (j ∷ ids) i (both p a) h = by-cases (eqb (F j .id) i)
       (λ e. List·Memᴰ·head (sym (eqb-true (F j .id) i e) ∙ p))
@@ -57,6 +61,10 @@ module _ (F : ℕ → Held) where
 module _ {stacked : List Held} {ids : List ℕ} (l : Listed stacked ids) where
   listed-named : All (λ j. fetch stacked j .id ≡ j) ids
   listed-named = all-more (fetch-id stacked) (l .each)
+
+  -- the records are those of the ids, in their order
+  pub listed-ids : map (λ (h : Held). h .id) (map (fetch stacked) ids) ≡ ids
+  listed-ids = names (fetch stacked) listed-named
 
   -- what is stacked is on the stack
   pub listed-has : (i : ℕ) → has (map (fetch stacked) ids) i ≡ has stacked i
@@ -70,7 +78,7 @@ module _ {stacked : List Held} {ids : List ℕ} (l : Listed stacked ids) where
 
 -- ---- a stacked entry among others
 
-module _ (es fs : List Entry) (e : Entry) (q : eqb (e .where-is) 2 ≡ true) (b : All (Before e) es) (a : All (After e) fs) where
+module _ (es fs : List InPlace) (e : InPlace) (q : eqb (e .where-is) 2 ≡ true) (b : All (Before e) es) (a : All (After e) fs) where
   abbrev i : ℕ
   i = e .what .id
 
@@ -95,7 +103,7 @@ module _ (es fs : List Entry) (e : Entry) (q : eqb (e .where-is) 2 ≡ true) (b 
         record {
           each = both (has-here 2 e q es fs) (all-both (λ j n m. has-other 2 e q es fs j (ne-eqb i j (λ z. n (sym z))) ∙ m) fresh (l .each));
           once = ahead fresh (l .once);
-          whole = ap settled records-push ∙ rw (o, p);
+          whole = ap by-id records-push ∙ rw (o, p);
         }
 
   -- its id leaves from the middle
@@ -117,6 +125,6 @@ module _ (es fs : List Entry) (e : Entry) (q : eqb (e .where-is) 2 ≡ true) (b 
       each = all-both (λ j n m. sym (has-other 2 e q es fs j (ne-eqb i j (λ z. n (sym z)))) ∙ m) rest (all-cut xs i ys (l .each));
       once = pairs-cut xs i ys (l .once);
       whole =
-          ap settled records-leave ∙ settled-without (map F (xs ++ i ∷ ys)) i (single-named F (listed-named l) (l .once))
+          ap by-id records-leave ∙ settled-without (map F (xs ++ i ∷ ys)) i (single-named F (listed-named l) (l .once))
           ∙ ap (λ (hs : List Held). without hs i) (l .whole) ∙ sym (spell-goes 2 e q es fs b);
     }

@@ -8,7 +8,7 @@ use Prim.Native.Nat.{ℕ, zero, suc, _+_, _<_, _≤_}
 use lib.Dec.{eqb}
 use lib.IntN.{ℤ}
 use lib.ListN.{length, getD, take, drop}
-use Rattle.rules.specs.Lists.{all, only}
+use Rattle.rules.specs.Lists.{all-pass, only}
 use Rattle.rules.specs.Terms.{in-range, is-clause, is-witness, Held, State, has, fetch}
 use Rattle.rules.specs.Frames.{place}
 use Rattle.table.specs.Facts.{All, Pairs, total}
@@ -44,6 +44,10 @@ witness-of r = getD r 4 0
 abbrev pub size : Row → ℕ
 size r = length-of r + witness-of r
 
+-- the same clause's row, in another place or with other words
+abbrev pub moved-row : Row → ℕ → ℕ → ℕ → ℕ → Row
+moved-row r p start n w = id-of r ∷ p ∷ start ∷ n ∷ w ∷ []
+
 abbrev pub part : List ℤ → ℕ → ℕ → List ℤ
 part pool start n = take n (drop start pool)
 
@@ -57,12 +61,19 @@ abbrev pub held : List ℤ → Row → Held
 held pool r = record { id = id-of r; lits = clause-part pool r; witness = witness-part pool r }
 
 -- a clause or a record, and the place that it stands in
-pub record Entry : Type 0 where
+pub record InPlace : Type 0 where
   pub where-is : ℕ
   pub what : Held
 
-abbrev pub entry : List ℤ → Row → Entry
-entry pool r = record { where-is = place-of r; what = held pool r }
+abbrev pub in-place : List ℤ → Row → InPlace
+in-place pool r = record { where-is = place-of r; what = held pool r }
+
+-- ---- the numbers beside the rows
+
+-- the table with other numbers: V and the entries that may be held stay
+abbrev pub renumbered : Table → (highest count gone words depth top : ℕ) → Table
+renumbered t highest count gone words depth top =
+    record { vars = t .vars; highest = highest; entries = t .entries; count = count; gone = gone; words = words; depth = depth; top = top }
 
 -- ---- what the tables spell
 
@@ -117,15 +128,15 @@ Lawful vars (suc (suc (suc zero))) h = (h .lits ≡ []) × (h .witness ≡ [])
 Lawful vars (suc (suc (suc (suc p)))) h = ⊥
 
 -- clauses by rising id
-abbrev pub settled : List Held → List Held
-settled [] = []
-settled (h ∷ hs) = place h (settled hs)
+abbrev pub by-id : List Held → List Held
+by-id [] = []
+by-id (h ∷ hs) = place h (by-id hs)
 
 -- "the stack lists each stacked clause once": each id is a stacked clause's, none is there twice, and none is missing
 pub record Listed (stacked : List Held) (ids : List ℕ) : Type 0 where
   pub each : All (λ i. has stacked i ≡ true) ids
   pub once : Pairs (λ i j. j ≡ i → ⊥) ids
-  pub whole : settled (map (fetch stacked) ids) ≡ stacked
+  pub whole : by-id (map (fetch stacked) ids) ≡ stacked
 
 -- of the rows held, the pool, and the stack's ids from the top
 pub record Core (vars highest top words : ℕ) (rows : List Row) (pool : List ℤ) (ids : List ℕ) : Type 0 where
@@ -158,6 +169,13 @@ pub record Fit (t : Table) (rows : List Row) (pool : List ℤ) (stack : List ℕ
   pub gone-fit : t .gone ≡ total gone-one (held-rows t rows)
   pub core : Core (t .vars) (t .highest) (t .top) (t .words) (held-rows t rows) pool (from-top t stack)
 
+-- every word of the tables and every number beside them is what it was
+pub record Same (t : Table) (rows : List Row) (pool : List ℤ) (stack : List ℕ) (t′ : Table) (rows′ : List Row) (pool′ : List ℤ) (stack′ : List ℕ) : Type 0 where
+  pub table : t′ ≡ t
+  pub same-rows : rows′ ≡ rows
+  pub same-pool : pool′ ≡ pool
+  pub same-stack : stack′ ≡ stack
+
 -- ---- readers
 
 -- what they may lean on, of the rows held and the pool: Fit has it
@@ -165,8 +183,8 @@ pub record Readable (rows : List Row) (pool : List ℤ) : Type 0 where
   pub rising : Rising rows
   pub positive : (k : ℕ) → k < length rows → 0 < id-of (row-at rows k)
   pub inside : (k : ℕ) → k < length rows → Inside (length pool) (row-at rows k)
-  pub ranged : (k : ℕ) → k < length rows → all (in-range 2048) (clause-part pool (row-at rows k)) ≡ true
-  pub witness-ranged : (k : ℕ) → k < length rows → all (in-range 2048) (witness-part pool (row-at rows k)) ≡ true
+  pub ranged : (k : ℕ) → k < length rows → all-pass (in-range 2048) (clause-part pool (row-at rows k)) ≡ true
+  pub witness-ranged : (k : ℕ) → k < length rows → all-pass (in-range 2048) (witness-part pool (row-at rows k)) ≡ true
   pub short : (k : ℕ) → k < length rows → (length-of (row-at rows k) ≤ 256) × (witness-of (row-at rows k) ≤ 256)
 
 -- every row before k has a lesser id

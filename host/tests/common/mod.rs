@@ -1,5 +1,6 @@
 //! The linked archive behind the calls that the second implementation tries.
 
+use second::lent::buffers::{Buffers, Given, Reader};
 use second::lent::calls::{Calls, Numbers};
 use second::lent::tables::{self, Tables};
 
@@ -24,6 +25,14 @@ fn lent(tables: &Tables) -> (Vec<zahrubel::Entry>, zahrubel::Carried) {
         stack: carried.stack,
     };
     (tables.entries.iter().map(entry).collect(), carried)
+}
+
+fn lent_reader(reader: &Reader) -> zahrubel::Reader {
+    zahrubel::Reader {
+        digits: reader.digits,
+        word: reader.word,
+        spoilt: reader.spoilt,
+    }
 }
 
 /// And back.
@@ -61,5 +70,48 @@ impl Calls for Linked {
         let answer = zahrubel::step(&mut entries, pool, &mut carried, frame, model);
         take_back(&entries, &carried, tables);
         (answer.code, answer.detail)
+    }
+
+    fn give(
+        &mut self,
+        tables: &mut Tables,
+        buffers: &mut Buffers,
+        part: &[u8],
+    ) -> (Numbers, Given) {
+        let (mut entries, mut carried) = lent(tables);
+        let mut reader = lent_reader(&buffers.reader);
+        let (answer, given) = zahrubel::give(
+            &mut entries,
+            &mut tables.pool,
+            &mut carried,
+            &mut reader,
+            &mut buffers.frame,
+            part,
+            &mut buffers.out,
+        );
+        take_back(&entries, &carried, tables);
+        buffers.reader = Reader {
+            digits: reader.digits,
+            word: reader.word,
+            spoilt: reader.spoilt,
+        };
+        let given = Given {
+            taken: given.taken,
+            written: given.written,
+        };
+        ((answer.code, answer.detail), given)
+    }
+
+    fn end(&mut self, reader: &Reader, out: &mut [u8]) -> (Numbers, u64) {
+        let (answer, written) = zahrubel::end(&lent_reader(reader), out);
+        ((answer.code, answer.detail), written)
+    }
+
+    fn clause<'t>(&mut self, tables: &'t Tables, entry: usize) -> &'t [i32] {
+        zahrubel::clause(&lent(tables).0, &tables.pool, entry)
+    }
+
+    fn witness<'t>(&mut self, tables: &'t Tables, entry: usize) -> &'t [i32] {
+        zahrubel::witness(&lent(tables).0, &tables.pool, entry)
     }
 }

@@ -2,13 +2,25 @@
 //! known to be the same, and prints the times as tables.
 
 use second::compare::first_difference;
+use second::progress::{asks_for_help, help, wrong_usage, Progress};
 use second::workloads::{all, Workload, HELD, KINDS};
 use std::fs::{self, File};
 use std::path::{Path, PathBuf};
 use std::process::{Command, ExitCode};
 use std::time::{Duration, Instant};
 
-const USAGE: &str = "usage: bench [--runs N] PROGRAM";
+const HELP: &str = "\
+usage: bench [--runs N] PROGRAM
+
+Times a line program beside the second implementation over every workload, each N times (7), and
+prints the best times as the tables of docs/BENCHMARK.md. The answers are compared; a difference
+ends it. Nothing else should run on the machine.
+
+Status: 0 timed; 1 a difference or a failure; 2 wrong usage.";
+/// About how long both programs take for a workload, once.
+const EACH_RUN: Duration = Duration::from_millis(160);
+/// About how long a workload takes to be written.
+const EACH_TRACE: Duration = Duration::from_millis(500);
 /// How often each program is run over a workload; the best run counts.
 const RUNS: usize = 7;
 
@@ -46,6 +58,9 @@ struct Bench {
 
 fn main() -> ExitCode {
     let arguments: Vec<String> = std::env::args().skip(1).collect();
+    if asks_for_help(&arguments) {
+        return help(HELP);
+    }
     let arguments: Vec<&str> = arguments.iter().map(String::as_str).collect();
     let (program, runs) = match arguments.as_slice() {
         [program] => (*program, Ok(RUNS)),
@@ -53,8 +68,7 @@ fn main() -> ExitCode {
         _ => ("", "".parse()),
     };
     let Ok(runs @ 1..) = runs else {
-        eprintln!("{USAGE}");
-        return ExitCode::FAILURE;
+        return wrong_usage(HELP);
     };
     match Bench::new(program, runs).and_then(|bench| bench.report()) {
         Ok(()) => ExitCode::SUCCESS,
@@ -82,10 +96,15 @@ impl Bench {
 
     fn report(&self) -> Outcome<()> {
         let nothing = self.time(b"")?;
-        let timed: Vec<Timed> = all()
-            .into_iter()
-            .map(|workload| self.measure(workload))
-            .collect::<Outcome<_>>()?;
+        let workloads = all();
+        let each = EACH_TRACE + EACH_RUN * self.runs as u32;
+        let mut progress = Progress::begin("bench", workloads.len() as u64, "workloads", each);
+        let mut timed = Vec::new();
+        for workload in workloads {
+            timed.push(self.measure(workload)?);
+            progress.step();
+        }
+        drop(progress);
         print_kinds(&timed);
         print_curves(&timed);
         println!(
@@ -97,7 +116,6 @@ impl Bench {
     }
 
     fn measure(&self, workload: Workload) -> Outcome<Timed> {
-        eprintln!("{workload}");
         let trace = workload.trace();
         let times = self
             .time(&trace)

@@ -3,11 +3,26 @@
 use second::compare::{first_difference, run_program};
 use second::histogram::Histogram;
 use second::lines::answers;
+use second::progress::{asks_for_help, help, wrong_usage, Progress};
 use second::traces::{find_class, Class, CLASSES};
 use std::ops::Range;
 use std::process::ExitCode;
+use std::time::Duration;
 
-const USAGE: &str = "usage: differ [--seeds A..B] [--class NAME] PROGRAM [ARGS..]";
+const HELP: &str = "\
+usage: differ [--seeds A..B] [--class NAME] PROGRAM [ARGS..]
+
+Feeds generated traces to a line program, compares each of its answers with those of the second
+implementation, and prints how often each operation got each code. It stops at the first
+difference, tells it in words, and fails.
+
+  --seeds A..B    a trace of every class for each seed from A to before B (0..20)
+  --class NAME    traces of this class alone; `traces --classes` lists them
+
+Status: 0 no difference; 1 a difference; 2 wrong usage.";
+
+/// About how long a trace takes, the launcher's start and the emulator counted in.
+const EACH: Duration = Duration::from_millis(50);
 
 struct Task {
     seeds: Range<u64>,
@@ -16,27 +31,42 @@ struct Task {
 }
 
 fn main() -> ExitCode {
-    let Some(task) = read_arguments(std::env::args().skip(1).collect()) else {
-        eprintln!("{USAGE}");
-        return ExitCode::FAILURE;
+    let arguments: Vec<String> = std::env::args().skip(1).collect();
+    if asks_for_help(&arguments) {
+        return help(HELP);
+    }
+    let Some(task) = read_arguments(arguments) else {
+        return wrong_usage(HELP);
     };
-    let mut histogram = Histogram::default();
-    let mut traces = 0;
-    for seed in task.seeds.clone() {
-        for class in &task.classes {
-            if let Err(found) = compare(class, seed, &task.program, &mut histogram) {
-                println!("class    {}, seed {seed}\n{found}", class.name);
-                return ExitCode::FAILURE;
-            }
-            traces += 1;
+    match run(&task) {
+        Ok(told) => {
+            print!("{told}");
+            ExitCode::SUCCESS
+        }
+        Err(found) => {
+            println!("{found}");
+            ExitCode::FAILURE
         }
     }
-    print!("{histogram}");
-    println!(
-        "{traces} traces, {} lines, no difference",
-        histogram.lines()
-    );
-    ExitCode::SUCCESS
+}
+
+/// Compares all traces; tells what was compared, or the first difference.
+fn run(task: &Task) -> Result<String, String> {
+    let seeds = task.seeds.end.saturating_sub(task.seeds.start);
+    let traces = seeds * task.classes.len() as u64;
+    let mut progress = Progress::begin("differ", traces, "traces", EACH);
+    let mut histogram = Histogram::default();
+    for seed in task.seeds.clone() {
+        for class in &task.classes {
+            compare(class, seed, &task.program, &mut histogram)
+                .map_err(|found| format!("class    {}, seed {seed}\n{found}", class.name))?;
+            progress.step();
+        }
+    }
+    let lines = histogram.lines();
+    Ok(format!(
+        "{histogram}{traces} traces, {lines} lines, no difference\n"
+    ))
 }
 
 /// Options come before the program; behind it all is the program's.

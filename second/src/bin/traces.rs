@@ -2,15 +2,31 @@
 //! counts answers.
 
 use second::histogram::Histogram;
+use second::progress::{asks_for_help, help, wrong_usage, Progress};
 use second::traces::{every_code, find_class, CLASSES};
 use std::io::{self, Write};
 use std::process::ExitCode;
+use std::time::Duration;
 
-const USAGE: &str = "usage: traces CLASS SEED | traces --every-code | traces --classes | \
-                     traces --histogram SEEDS";
+const HELP: &str = "\
+usage: traces CLASS SEED | --every-code | --classes | --histogram SEEDS
+
+Writes a trace of hexadecimal lines to standard output, the same for the same class and seed.
+
+  --classes            lists the classes
+  --every-code         writes examples/every-code.hex: every operation gives every code it can
+  --histogram SEEDS    counts operation by code over the first seeds of every class
+
+Status: 0 written; 1 standard output failed; 2 wrong usage.";
+
+/// About how long a trace takes to be written and answered.
+const EACH: Duration = Duration::from_millis(20);
 
 fn main() -> ExitCode {
     let arguments: Vec<String> = std::env::args().skip(1).collect();
+    if asks_for_help(&arguments) {
+        return help(HELP);
+    }
     let arguments: Vec<&str> = arguments.iter().map(String::as_str).collect();
     let output = match arguments.as_slice() {
         ["--classes"] => Some(classes()),
@@ -25,10 +41,7 @@ fn main() -> ExitCode {
             eprintln!("traces: {error}");
             ExitCode::FAILURE
         }
-        None => {
-            eprintln!("{USAGE}");
-            ExitCode::FAILURE
-        }
+        None => wrong_usage(HELP),
     }
 }
 
@@ -46,11 +59,13 @@ fn trace(class: &str, seed: &str) -> Option<Vec<u8>> {
 /// Operation by code over the first seeds of every class.
 fn histogram(seeds: u64) -> Vec<u8> {
     let mut histogram = Histogram::default();
+    let traces = seeds * CLASSES.len() as u64;
+    let mut progress = Progress::begin("traces", traces, "traces", EACH);
     for class in &CLASSES {
         for seed in 0..seeds {
             histogram.count_trace(&class.trace(seed));
+            progress.step();
         }
     }
-    let traces = seeds * CLASSES.len() as u64;
     format!("{histogram}{traces} traces, {} lines\n", histogram.lines()).into_bytes()
 }

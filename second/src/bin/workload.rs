@@ -1,14 +1,27 @@
 //! Writes a workload, lists the kinds, or counts the answers to one.
 
 use second::histogram::Histogram;
+use second::progress::{asks_for_help, help, wrong_usage};
 use second::workloads::{all, find};
 use std::io::{self, Write};
 use std::process::ExitCode;
 
-const USAGE: &str = "usage: workload KIND | workload --kinds | workload --answers KIND";
+const HELP: &str = "\
+usage: workload KIND | --kinds | --answers KIND
+
+Writes a workload to standard output: a trace to time a line program with, the same bytes every
+time. docs/BENCHMARK.md says what is in each. All take a second or less.
+
+  --kinds           lists the kinds
+  --answers KIND    counts operation by code over the answers to one
+
+Status: 0 written; 1 standard output failed; 2 wrong usage.";
 
 fn main() -> ExitCode {
     let arguments: Vec<String> = std::env::args().skip(1).collect();
+    if asks_for_help(&arguments) {
+        return help(HELP);
+    }
     let arguments: Vec<&str> = arguments.iter().map(String::as_str).collect();
     let output = match arguments.as_slice() {
         ["--kinds"] => Some(kinds()),
@@ -22,10 +35,7 @@ fn main() -> ExitCode {
             eprintln!("workload: {error}");
             ExitCode::FAILURE
         }
-        None => {
-            eprintln!("{USAGE}");
-            ExitCode::FAILURE
-        }
+        None => wrong_usage(HELP),
     }
 }
 

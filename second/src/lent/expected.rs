@@ -33,7 +33,7 @@ impl Expected {
 }
 
 /// "lent sizes outside 1 to 1,024 entries or 1 to 8,192 literal words"
-fn is_lendable(tables: &Tables) -> bool {
+pub fn is_lendable(tables: &Tables) -> bool {
     (1..=MOST_ENTRIES).contains(&tables.entries.len())
         && (1..=MOST_WORDS).contains(&tables.pool.len())
 }
@@ -61,13 +61,16 @@ pub fn expect_step(tables: &Tables, frame: &[i32], model: &[u64]) -> Expected {
     };
     let mut checker = Checker::with_state(state);
     let answer = checker.step(frame);
-    // "SAT and UNSAT never write the tables".
-    let writes = answer.is_accepted() && matches!(frame[0], 1..=7);
     Expected {
-        state: writes.then(|| checker.state().clone()),
+        state: is_change(frame, &answer).then(|| checker.state().clone()),
         model: answer.model.as_deref().map(model_words),
         ..Expected::unwritten(&answer)
     }
+}
+
+/// Whether the tables are written: "SAT and UNSAT never write the tables", nor does a refusal.
+pub fn is_change(frame: &[i32], answer: &Answer) -> bool {
+    answer.is_accepted() && matches!(frame[0], 1..=7)
 }
 
 /// "variable v is bit (v-1) mod 64 of word (v-1)/64, whole part; bits above V are zero"

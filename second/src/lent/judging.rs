@@ -2,10 +2,12 @@
 
 use super::calls::{Calls, Numbers};
 use super::expected::{expect_open, expect_step, Expected};
-use super::reading::state_of;
+use super::reading::{clause_part, state_of, witness_part};
 use super::tables::Tables;
+use crate::state::State;
 use crate::words::tell_frame;
 use std::fmt;
+use std::ops::Range;
 
 /// Where a call is wrong, in words.
 #[derive(Clone, Debug, PartialEq, Eq)]
@@ -29,8 +31,8 @@ pub fn judge_open(
     let before = tables.clone();
     let expected = expect_open(vars, &before);
     let numbers = calls.open(vars, tables);
-    let fault =
-        wrong_numbers(&expected, numbers).or_else(|| wrong_tables(&expected, &before, tables));
+    let fault = wrong_numbers((expected.code, expected.detail), numbers)
+        .or_else(|| wrong_tables(&expected.state, &before, tables));
     differs(fault, || format!("open V {vars}, {}", tell_tables(&before)))?;
     Ok(expected)
 }
@@ -45,8 +47,8 @@ pub fn judge_step(
     let (before, buffer) = (tables.clone(), model.to_vec());
     let expected = expect_step(&before, frame, &buffer);
     let numbers = calls.step(tables, frame, model);
-    let fault = wrong_numbers(&expected, numbers)
-        .or_else(|| wrong_tables(&expected, &before, tables))
+    let fault = wrong_numbers((expected.code, expected.detail), numbers)
+        .or_else(|| wrong_tables(&expected.state, &before, tables))
         .or_else(|| wrong_model(&expected, &buffer, model));
     differs(fault, || {
         let buffer = format!("buffer of {} words", buffer.len());
@@ -55,7 +57,38 @@ pub fn judge_step(
     Ok(expected)
 }
 
-fn differs(fault: Option<String>, call: impl Fn() -> String) -> Result<(), Difference> {
+/// Reads clause and witness of an entry, whatever the tables hold.
+pub fn judge_parts(calls: &mut dyn Calls, tables: &Tables, entry: usize) -> Result<(), Difference> {
+    let (entries, words) = (&tables.entries, tables.pool.len());
+    let clause = calls.clause(tables, entry);
+    let witness = calls.witness(tables, entry);
+    let right_clause = clause_part(entries, words, entry);
+    let right_witness = witness_part(entries, words, entry);
+    let fault = wrong_part("clause", right_clause, clause, &tables.pool)
+        .or_else(|| wrong_part("witness", right_witness, witness, &tables.pool));
+    differs(fault, || {
+        let held = entries.get(entry);
+        format!("parts of entry {entry}, {held:?}, {}", tell_tables(tables))
+    })
+}
+
+/// "handed to its readers as a part of the pool, with no copy": where it lies is compared. Where
+/// no word is, it lies nowhere.
+fn wrong_part(name: &str, expected: Range<usize>, found: &[i32], pool: &[i32]) -> Option<String> {
+    let right = &pool[expected.clone()];
+    let length = found.len();
+    let elsewhere = !right.is_empty() && found.as_ptr() != right.as_ptr();
+    let fault = if length != right.len() {
+        "of another length"
+    } else if elsewhere {
+        "from elsewhere"
+    } else {
+        return None;
+    };
+    Some(format!("{name} {fault} than {expected:?}: {length} words"))
+}
+
+pub(super) fn differs(fault: Option<String>, call: impl Fn() -> String) -> Result<(), Difference> {
     match fault {
         Some(found) => Err(Difference {
             call: call(),
@@ -65,15 +98,19 @@ fn differs(fault: Option<String>, call: impl Fn() -> String) -> Result<(), Diffe
     }
 }
 
-fn wrong_numbers(expected: &Expected, found: Numbers) -> Option<String> {
-    let numbers = (expected.code.into(), expected.detail.into());
+pub(super) fn wrong_numbers((code, detail): (u32, u32), found: Numbers) -> Option<String> {
+    let numbers = (code.into(), detail.into());
     (found != numbers).then(|| format!("answer {found:?} instead of {numbers:?}"))
 }
 
 /// Tables are judged by the state they spell where the call writes, else by every word.
-fn wrong_tables(expected: &Expected, before: &Tables, after: &Tables) -> Option<String> {
+pub(super) fn wrong_tables(
+    expected: &Option<State>,
+    before: &Tables,
+    after: &Tables,
+) -> Option<String> {
     let spelled = || state_of(&after.entries, &after.pool, &after.carried);
-    let fault = match &expected.state {
+    let fault = match expected {
         None => (before != after).then_some("a word of the tables changed"),
         Some(state) => match spelled() {
             None => Some("the tables left are no state"),
@@ -91,7 +128,7 @@ fn wrong_model(expected: &Expected, before: &[u64], after: &[u64]) -> Option<Str
     (after != right).then(|| "another model buffer".to_string())
 }
 
-fn tell_tables(tables: &Tables) -> String {
+pub(super) fn tell_tables(tables: &Tables) -> String {
     let carried = &tables.carried;
     format!(
         "{} entries, {} words; carried V {}, highest {}, count {}, words {}, depth {}",

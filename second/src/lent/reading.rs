@@ -55,6 +55,31 @@ fn part(entry: &Entry, words: usize) -> Option<Range<usize>> {
     (end <= words as u64).then_some(start as usize..end as usize)
 }
 
+/// The part of the pool that the clause of an entry takes, whatever the tables hold. Past the
+/// table's end there is no clause; of a part that ends past the pool there is what lies inside.
+pub fn clause_part(entries: &[Entry], words: usize, entry: usize) -> Range<usize> {
+    match entries.get(entry) {
+        Some(entry) => inside(entry.start.into(), entry.length, words),
+        None => 0..0,
+    }
+}
+
+/// The same for the witness, which follows the clause.
+pub fn witness_part(entries: &[Entry], words: usize, entry: usize) -> Range<usize> {
+    match entries.get(entry) {
+        Some(entry) => {
+            let start = u64::from(entry.start) + u64::from(entry.length);
+            inside(start, entry.witness, words)
+        }
+        None => 0..0,
+    }
+}
+
+fn inside(start: u64, length: u32, words: usize) -> Range<usize> {
+    let within = |place: u64| place.min(words as u64) as usize;
+    within(start)..within(start + u64::from(length))
+}
+
 /// "all literals lie inside the pool with no overlap"
 fn lie_apart(held: &[Entry], words: usize) -> bool {
     let mut taken = vec![false; words];

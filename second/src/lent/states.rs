@@ -26,9 +26,10 @@ fn any_longest(few: usize, random: &mut Random) -> usize {
 /// An empty state of any V and sizes within the bounds.
 pub fn any_empty(random: &mut Random) -> State {
     let most = MOST_VARIABLES as usize;
-    // Lists longer than 256 need more variables than that.
-    let vars = match random.below(4) {
-        0 => random.between(MOST_LITERALS + 1, most),
+    // Lists longer than 256 need more variables than that; the longest answer needs all.
+    let vars = match random.below(16) {
+        0 => most,
+        1..=3 => random.between(MOST_LITERALS + 1, most),
         _ => any_size(most, random),
     };
     let entries = any_size(MOST_ENTRIES, random);

@@ -2,7 +2,7 @@
 
 use crate::answer::Answer;
 use crate::checker::Checks;
-use crate::lines::write_word;
+use crate::lines::write_frame;
 use crate::random::Random;
 use crate::state::State;
 
@@ -23,10 +23,7 @@ impl<'c> Author<'c> {
 
     /// Writes the frame as a line and steps.
     pub fn say(&mut self, frame: &[i32]) -> Answer {
-        for &word in frame {
-            write_word(word as u32, &mut self.lines);
-        }
-        self.lines.push(b'\n');
+        write_frame(frame, &mut self.lines);
         self.checker.step(frame)
     }
 

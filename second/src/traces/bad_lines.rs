@@ -4,6 +4,7 @@ use super::author::Author;
 use super::histories::tell;
 use super::moves::Mix;
 use crate::lines::MOST_DIGITS;
+use crate::random::Random;
 
 const FRAME: &[u8] = b"0000000800000000";
 
@@ -16,7 +17,7 @@ pub fn bad_lines(author: &mut Author<'_>) {
     };
     for _ in 0..30 {
         tell(author, &mix, 1, 8);
-        let line = bad_line(author);
+        let line = bad_line(&mut author.random);
         author.write_raw(&line);
         author.write_raw(b"\n");
     }
@@ -29,8 +30,8 @@ pub fn bad_lines(author: &mut Author<'_>) {
     }
 }
 
-fn bad_line(author: &mut Author<'_>) -> Vec<u8> {
-    let random = &mut author.random;
+/// A line, without its 0A, that is mostly no frame.
+pub(crate) fn bad_line(random: &mut Random) -> Vec<u8> {
     let mut line = FRAME.to_vec();
     match random.below(9) {
         0 => line.clear(),

@@ -1,7 +1,7 @@
 //! Seeded traces in named classes, for comparing two programs and for timing one.
 
 pub mod author;
-mod bad_lines;
+pub(crate) mod bad_lines;
 mod edges;
 mod every_code;
 mod faults;

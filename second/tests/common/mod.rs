@@ -4,6 +4,8 @@
 use second::answer::Answer;
 use second::checker::{Checker, Checks};
 use second::histogram::Asked;
+use second::lent::buffers::{Buffers, Reader};
+use second::lent::tables::{Carried, Entry, Tables};
 use second::lines::opened;
 
 /// Takes accepted steps from the empty state with the program's sizes.
@@ -44,5 +46,41 @@ pub fn reachable(asked: Asked) -> &'static [u32] {
         Asked::Operation(8) => &[0, 2, 3, 5, 10, 11],
         Asked::Operation(9) => &[0, 2, 3, 7, 8],
         _ => &[2],
+    }
+}
+
+/// An entry from its five words.
+pub fn entry([id, place, start, length, witness]: [u32; 5]) -> Entry {
+    Entry {
+        id,
+        place,
+        start,
+        length,
+        witness,
+    }
+}
+
+/// Tables of all the variables, entries and words that can be, without a clause.
+pub fn empty_tables() -> Tables {
+    Tables {
+        entries: vec![Entry::default(); 1_024],
+        pool: vec![0; 8_192],
+        carried: Carried {
+            vars: 2_048,
+            highest: 0,
+            count: 0,
+            words: 0,
+            depth: 0,
+            stack: [0; 1_024],
+        },
+    }
+}
+
+/// Buffers in which no line is begun, with so many bytes of room for answers.
+pub fn fresh_buffers(room: usize) -> Buffers {
+    Buffers {
+        reader: Reader::default(),
+        frame: vec![7; 4_096],
+        out: vec![b'.'; room],
     }
 }

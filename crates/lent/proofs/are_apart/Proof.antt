@@ -22,9 +22,9 @@ abbrev μ-loop : tie.MeasureT-loop
 μ-loop rows words marks₀ i₀ marks i = length rows - i
 
 -- the row at i, and its part
-module _ (x : tie.After-wide3 Inv-loop μ-loop) where
+module _ (x : tie.After-size-of Inv-loop μ-loop) where
   abbrev at : tie.At-loop Inv-loop μ-loop
-  at = x .before .before .before .before .before
+  at = x .before .before .before .before
 
   abbrev s : tie.Start Inv-loop μ-loop
   s = at .before
@@ -32,61 +32,29 @@ module _ (x : tie.After-wide3 Inv-loop μ-loop) where
   abbrev row : Row
   row = row-at (s .args .rows .now) (at .loop .i)
 
-  start-is : x .before .before .wide .result ≡ start-of row
-  start-is = x .before .before .wide .ensures .0
+  start-is : x .before .wide .result ≡ start-of row
+  start-is = x .before .wide .ensures .0
 
-  end-is : x .before .before .wide .result + (x .before .wide2 .result + x .wide3 .result) ≡ start-of row + size row
-  end-is = omega (arith, x .before .before .wide .ensures .0, x .before .wide2 .ensures .0, x .wide3 .ensures .0)
+  end-is : x .before .wide .result + x .size-of .result ≡ start-of row + size row
+  end-is = omega (arith, start-is, x .size-of .ensures)
 
   more : at .loop .i < length (s .args .rows .now)
-  more = x .before .before .before .before .loop-test .taken
+  more = x .before .before .before .loop-test .taken
 
   filled : start-of row < start-of row + size row → start-of row + size row ≤ s .args .words
   filled h = inside-filled _ row (all-index (inside (s .args .words)) (s .args .rows .now) _ [] more (s .pre .0)) h
 
 -- what was told of the part
 module _ (x : tie.After-mark-part Inv-loop μ-loop) where
-  abbrev read : tie.After-wide3 Inv-loop μ-loop
+  abbrev read : tie.After-size-of Inv-loop μ-loop
   read = x .before .before
 
-  told : {b : Bool} → x .mark-part .result ≡ b → Takes (at read .loop .marks) (start-of (row read)) (start-of (row read) + size (row read)) b (x .mark-part .last .0)
+  told : {b : Bool} → x .mark-part .result ≡ b → Takes (at read .loop .marks) (start-of (row read)) (start-of (row read) + size (row read)) b
+      (x .mark-part .last .0)
   told e = takes-same _ _ (start-is read) (end-is read) e (x .mark-part .ensures)
 
 loop-holds : tie.Need-loop-holds Inv-loop μ-loop
 loop-holds c = parted-start _
-
-mul-row : tie.Need-mul-row Inv-loop μ-loop
-mul-row c = search needs
-
-shared-slice-copy-out-row : tie.Need-shared-slice-copy-out-row Inv-loop μ-loop
-shared-slice-copy-out-row c = search needs
-
-array-read-wide : tie.Need-array-read-wide Inv-loop μ-loop
-array-read-wide c = search needs
-
-wide-requires : tie.Need-wide-requires Inv-loop μ-loop
-wide-requires c κs = search needs
-
-array-read-wide-2 : tie.Need-array-read-wide-2 Inv-loop μ-loop
-array-read-wide-2 c = search needs
-
-wide-requires-2 : tie.Need-wide-requires-2 Inv-loop μ-loop
-wide-requires-2 c κs = search needs
-
-array-read-wide-3 : tie.Need-array-read-wide-3 Inv-loop μ-loop
-array-read-wide-3 c = search needs
-
-wide-requires-3 : tie.Need-wide-requires-3 Inv-loop μ-loop
-wide-requires-3 c κs = search needs
-
-add-end : tie.Need-add-end Inv-loop μ-loop
-add-end c = search needs
-
-add-end-2 : tie.Need-add-end-2 Inv-loop μ-loop
-add-end-2 c = search needs
-
-slice-aggregate-mark-part : tie.Need-slice-aggregate-mark-part Inv-loop μ-loop
-slice-aggregate-mark-part c = search needs
 
 mark-part-requires : tie.Need-mark-part-requires Inv-loop μ-loop
 mark-part-requires c κs =
@@ -100,12 +68,6 @@ returns : tie.Need-returns Inv-loop μ-loop
 returns c =
     let x = c .before .before in
     parted-overlap _ (at (read x) .loop .inv) (more (read x)) (x .mark-part .last .0) (told x (not-true {b = x .mark-part .result} (c .if1 .taken)))
-
-add-i : tie.Need-add-i Inv-loop μ-loop
-add-i c = search needs
-
-loop-less : tie.Need-loop-less Inv-loop μ-loop
-loop-less c = search needs
 
 loop-again : tie.Need-loop-again Inv-loop μ-loop
 loop-again c =
@@ -122,20 +84,16 @@ are-apart-spec =
     Inv-loop
     μ-loop
     loop-holds
-    mul-row
-    shared-slice-copy-out-row
-    array-read-wide
-    wide-requires
-    array-read-wide-2
-    wide-requires-2
-    array-read-wide-3
-    wide-requires-3
-    add-end
-    add-end-2
-    slice-aggregate-mark-part
+    (λ c. search needs)  -- mul-row
+    (λ c. search needs)  -- shared-slice-copy-out-row
+    (λ c. search needs)  -- array-read-wide
+    (λ c κs. search needs)  -- wide-requires
+    (λ c κs. search needs)  -- size-of-requires
+    (λ c. search needs)  -- add-end
+    (λ c. search needs)  -- slice-aggregate-mark-part
     mark-part-requires
     returns
-    add-i
-    loop-less
+    (λ c. search needs)  -- add-i
+    (λ c. search needs)  -- loop-less
     loop-again
     returns-2)

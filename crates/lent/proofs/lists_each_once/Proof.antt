@@ -46,29 +46,11 @@ module _ (x : tie.After-known-told Inv-loop μ-loop) where
   low : k < 1024
   low = let n = s found .pre .1 in omega (arith, located-at .0)
 
-count-stacked-requires : tie.Need-count-stacked-requires Inv-loop μ-loop
-count-stacked-requires c κs = search needs
-
 returns : tie.Need-returns Inv-loop μ-loop
 returns c = miscounted _ _ (λ e. omega (arith, c .before .count-stacked .ensures))
 
 loop-holds : tie.Need-loop-holds Inv-loop μ-loop
 loop-holds c = ticked-start _ _ (c .before .before .before .pre .1)
-
-mul-find : tie.Need-mul-find Inv-loop μ-loop
-mul-find c = search needs
-
-shared-slice-read-find : tie.Need-shared-slice-read-find Inv-loop μ-loop
-shared-slice-read-find c = search needs
-
-find-requires : tie.Need-find-requires Inv-loop μ-loop
-find-requires c κs = search needs
-
-enum-known-k : tie.Need-enum-known-k Inv-loop μ-loop
-enum-known-k c = search needs
-
-enum-told : tie.Need-enum-told Inv-loop μ-loop
-enum-told c = search needs
 
 returns-2 : tie.Need-returns-2 Inv-loop μ-loop
 returns-2 c =
@@ -94,17 +76,12 @@ returns-4 c =
 array-write-marks : tie.Need-array-write-marks Inv-loop μ-loop
 array-write-marks c = low (c .before .before .before)
 
-add-j : tie.Need-add-j Inv-loop μ-loop
-add-j c = search needs
-
-loop-less : tie.Need-loop-less Inv-loop μ-loop
-loop-less c = search needs
-
 loop-again : tie.Need-loop-again Inv-loop μ-loop
 loop-again c =
     let p = c .before .before in
     let x = p .before in
-    ticked-next _ _ (at (found x) .loop .inv) (more (found x)) (s (found x) .pre .0) (k x) (located-at x) (sym (p .place-at .ensures) ∙ c .before .if2 .left) (c .if3 .left)
+    ticked-next _ _ (at (found x) .loop .inv) (more (found x)) (s (found x) .pre .0) (k x) (located-at x) (sym (p .place-at .ensures) ∙ c .before .if2 .left)
+    (c .if3 .left)
 
 returns-5 : tie.Need-returns-5 Inv-loop μ-loop
 returns-5 c = ticked-end _ _ (c .before .loop .inv) (search needs) (omega (arith, c .before .before .before .count-stacked .ensures))
@@ -115,21 +92,21 @@ lists-each-once-spec =
     (tie.spec
     Inv-loop
     μ-loop
-    count-stacked-requires
+    (λ c κs. search needs)  -- count-stacked-requires
     returns
     loop-holds
-    mul-find
-    shared-slice-read-find
-    find-requires
-    enum-known-k
-    enum-told
+    (λ c. search needs)  -- mul-find
+    (λ c. search needs)  -- shared-slice-read-find
+    (λ c κs. search needs)  -- find-requires
+    (λ c. search needs)  -- enum-known-k
+    (λ c. search needs)  -- enum-told
     returns-2
     place-at-requires
     returns-3
     array-read-if3
     returns-4
     array-write-marks
-    add-j
-    loop-less
+    (λ c. search needs)  -- add-j
+    (λ c. search needs)  -- loop-less
     loop-again
     returns-5)

@@ -4,13 +4,13 @@ use Prim.Native.Nat.{_-_, _<_, _≤_}
 use native.Mathlib.Omega.{arith}
 use lib.ListN.{length}
 use borrow.Author.Needs.{needs}
-use Rattle.lent.specs.Marks.{Taken}
+use Rattle.lent.specs.Marks.{PartMarked}
 use Rattle.lent.proofs.Parts.{taken-none, taken-hit, taken-next}
 use Rattle.lent.proofs.mark_part.Statement.{statement}
 use Rattle.lent.proofs.mark_part.Tie as tie
 
 abbrev Inv-loop : tie.InvT-loop
-Inv-loop marks₀ start end w₀ marks w = (start ≤ w) × (w ≤ end) × Taken marks₀ start w marks
+Inv-loop marks₀ start end w₀ marks w = (start ≤ w) × (w ≤ end) × PartMarked marks₀ start w marks
 
 abbrev μ-loop : tie.MeasureT-loop
 μ-loop marks₀ start end w₀ marks w = end - w
@@ -39,12 +39,6 @@ returns c = let i = c .before .before .before .loop .inv in taken-hit (i .2) (i 
 slice-write-marks : tie.Need-slice-write-marks Inv-loop μ-loop
 slice-write-marks c = low (c .before .before)
 
-add-w : tie.Need-add-w Inv-loop μ-loop
-add-w c = search needs
-
-loop-less : tie.Need-loop-less Inv-loop μ-loop
-loop-less c = search needs
-
 loop-again : tie.Need-loop-again Inv-loop μ-loop
 loop-again c = let i = c .before .before .before .loop .inv in (search needs, search needs, taken-next (i .2) (i .0) (low (c .before .before)) (c .if1 .left))
 
@@ -68,8 +62,8 @@ mark-part-spec =
     same-length
     returns
     slice-write-marks
-    add-w
-    loop-less
+    (λ c. search needs)  -- add-w
+    (λ c. search needs)  -- loop-less
     loop-again
     same-length-2
     returns-2)

@@ -1,0 +1,2 @@
+-- What serving the input comes to.
+pub mod Serving

@@ -1,2 +1,0 @@
--- The row of the clause that a frame names.
-pub mod Located

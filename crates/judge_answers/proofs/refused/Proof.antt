@@ -1,0 +1,7 @@
+use mathlib.Core.Path.{refl}
+use borrow.Author.Needs.{needs}
+use Rattle.judge_answers.proofs.refused.Statement.{statement}
+use Rattle.judge_answers.proofs.refused.Tie as tie
+
+pub refused-spec : {M : Type 1} → statement M
+refused-spec = tie.close (tie.spec (λ c κs. search needs) (λ c. rw (c .failed .ensures) refl))  -- failed-requires, returns

@@ -1,0 +1,2 @@
+-- One turn of each loop: Walks.
+pub mod Walks

@@ -1,0 +1,2 @@
+-- What the loops look for: Records.
+pub mod Records

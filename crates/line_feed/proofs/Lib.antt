@@ -1,0 +1,2 @@
+-- What the loop that feeds keeps of the tables.
+pub mod Tables

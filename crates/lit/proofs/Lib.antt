@@ -1,0 +1,2 @@
+-- The laws of signed words: Signed.
+pub mod Signed

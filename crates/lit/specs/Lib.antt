@@ -1,0 +1,2 @@
+-- The polarity of a literal: Signs.
+pub mod Signs

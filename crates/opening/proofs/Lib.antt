@@ -1,2 +1,0 @@
--- Opening's two checks.
-pub mod Opened

@@ -1,2 +1,0 @@
--- What giving a part comes to, for every input.
-pub mod Giving

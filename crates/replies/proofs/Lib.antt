@@ -1,3 +1,0 @@
--- what the loops that write keep
-pub mod Writing
-pub mod Model

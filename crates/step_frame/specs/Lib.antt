@@ -1,0 +1,2 @@
+-- What a head says of a frame's words: Head.
+pub mod Head

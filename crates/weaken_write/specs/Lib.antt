@@ -1,0 +1,2 @@
+-- What WEAKEN has been judged by, and what its writer makes of the table.
+pub mod Records
