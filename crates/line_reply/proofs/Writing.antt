@@ -14,7 +14,7 @@ use Rattle.line_hex.proofs.Digits.{hex-length}
 use Rattle.line_read.specs.Lines.{numbered}
 use Rattle.line_read.specs.Lent.{Wrote}
 use Rattle.line_read.proofs.Replies.{numbered-length}
-use Rattle.line_read.proofs.Slices.{drop-further}
+use Rattle.text.proofs.Slices.{drop-further}
 
 pub wrote-none : (o : List ℕ) (a : ℕ) → Wrote o a [] o a
 wrote-none o a = record { place = omega arith; bytes = sym (append-nil (take a o)); behind = refl }
