@@ -7,7 +7,7 @@ use Prim.Native.Nat.{ℕ, zero, suc, _+_, _≤_}
 use native.Mathlib.Omega.{arith}
 use lib.Dec.{eqb, ltb, leb}
 use lib.IntN.{ℤ}
-use lib.ListN.{length, drop}
+use lib.ListN.{length, drop, length-append}
 use borrow.Author.Tests.{ltb-true, leb-true}
 use Rattle.rules.proofs.Lists.{by-cases, and-left, and-right}
 use Rattle.text.specs.Words.{TextWord, text-words, words-from}
@@ -67,6 +67,21 @@ clause-behind text (w ∷ ws) begun {x} s e = of (clause-word 2048 w) e (λ l q.
     of (Wrong f) q more = no-clause q
     of Closing q more = let f = s w ws refl in let same = some-same q in rw (sym same) (record { rest = f .rest; behind = f .behind })
     of (Literal l) q more = by-cases (ltb (length begun) 256) (λ t. more l (rw t at q)) (λ f. no-clause (rw f at q))
+
+-- whatever the words are, a clause has at most 256 literals
+pub clause-short : (ws : List TextWord) (begun : List ℤ) {x : ClosedClause} → length begun ≤ 256 → next-clause begun ws ≡ some x → length (x .lits) ≤ 256
+unfolding next-clause
+clause-short [] begun h e = no-clause e
+clause-short (w ∷ ws) begun {x} h e = of (clause-word 2048 w) e (λ l k q. clause-short ws (begun ++ (l ∷ [])) k q)
+  where
+    of : (k : ClauseWord) → by-word k none (some (record { lits = begun; behind = w .at + length (w .bytes); rest = ws }))
+        (λ l. cond (ltb (length begun) 256) (next-clause (begun ++ (l ∷ [])) ws) none) ≡ some x →
+        ((l : ℤ) → length (begun ++ (l ∷ [])) ≤ 256 → next-clause (begun ++ (l ∷ [])) ws ≡ some x → length (x .lits) ≤ 256) → length (x .lits) ≤ 256
+    of (Wrong f) q more = no-clause q
+    of Closing q more = let same = some-same q in rw (sym same) h
+    of (Literal l) q more = by-cases (ltb (length begun) 256)
+        (λ t. more l (omega (arith, length-append begun (l ∷ []), ltb-true (length begun) 256 t)) (rw t at q))
+        (λ f. no-clause (rw f at q))
 
 -- ---- a text without fault
 

@@ -2,26 +2,27 @@
 use mathlib.Core.Path.{_≡_, refl, sym, ap, ap₂, _∙_}
 use mathlib.Core.Bool.{Bool, true, false, cond}
 use mathlib.Core.Logic.{⊎-elim}
-use mathlib.Core.List.{List, [], _∷_}
+use mathlib.Core.List.{List, [], _∷_, _++_, append-assoc, append-nil}
 use mathlib.Core.Option.{Option, none, some}
-use Prim.Native.Nat.{ℕ, _+_, _≤_}
+use Prim.Native.Nat.{ℕ, _+_, _≤_, _<_}
 use native.Mathlib.Omega.{arith}
 use lib.Dec.{eqb, ltb}
 use lib.IntN.{ℤ, pos}
 use lib.ListN.{length, take, replicate}
 use lib.Seq.{take-append-seam}
-use borrow.Author.Tests.{ltb-false, lt-ltb, le-ltb, eq-eqb, ne-eqb}
+use borrow.Author.Tests.{ltb-true, ltb-false, lt-ltb, le-ltb, eq-eqb, ne-eqb, eqb-true}
 use Rattle.rules.proofs.Lists.{by-cases}
 use Rattle.table_slices.specs.Writes.{over}
+use Rattle.table_slices.proofs.Slices.{length-over}
 use Rattle.text.specs.Words.{TextWord}
 use Rattle.dimacs.specs.Reading.{Read, faulty, sound, read-clauses, Cnf, read-text, body-words}
 use Rattle.dimacs.specs.Frames.{add-frame, add-frames, frames-of, ClosedClause, next-clause}
 use Rattle.dimacs.specs.declared.TextFault.{TextFault}
 use Rattle.dimacs.proofs.Clauses.{clause-next}
-use Rattle.dimacs.proofs.Bodies.{Standing, from-stands, body-stands, ClauseBehind, clause-behind, text-body}
+use Rattle.dimacs.proofs.Bodies.{Standing, from-stands, body-stands, ClauseBehind, clause-behind, clause-short, text-body}
 use Rattle.dimacs_frames.proofs.Frames.{left-behind, behind-ends}
 use Rattle.dimacs_frames.specs.Yields.{words-left, yield-clause, yield-first, yields, into, yields-into}
-use Rattle.dimacs_frames.specs.Series.{Series, no-frame, then-frame}
+use Rattle.dimacs_frames.specs.Series.{Series, no-frame, then-frame, Leads}
 use Rattle.dimacs_frames.specs.declared.Cursor.{Cursor}
 use Rattle.dimacs_frames.specs.declared.Yield.{Yield}
 use Rattle.dimacs_frames.specs.declared.Yield.the-variants.{Frame, NoneLeft, Faulty, NoBuffer}
@@ -72,6 +73,67 @@ module _ (text : List ℕ) (c : Cursor) where
       let all = e ∙ enough frame (fits frame frame′ n d e) in
       let many = counted text c n d (sym (ap (λ (x : Yield × List ℤ). x .0) all)) in
       ap (take n) (ap (λ (x : Yield × List ℤ). x .1) all) ∙ ap (λ (k : ℕ). take k (over frame (yields text c .1))) many ∙ take-append-seam (yields text c .1) _
+
+-- ---- what a call that hands out a frame comes to
+
+-- the frame has at most 258 words, and the next id is the cursor's
+abbrev Moved : ℕ → Yield → Type 0
+Moved id r = (n : ℕ) (d : Cursor) → r ≡ Frame n d → (n ≤ 258) × (d .id ≡ id + 1) × (id < 2147483647)
+
+clause-moved : (id : ℕ) (ws : List TextWord) (o : Option ClosedClause) → next-clause [] ws ≡ o → Moved id (yield-clause id o .0)
+clause-moved id ws none q = λ n d e. let z : _≡_ {A = ℕ} 0 1 = cc in absurd (omega arith)
+clause-moved id ws (some x) q = by-cases (ltb id 2147483647)
+    (λ t.
+    rw t (λ n d e.
+    let many : n ≡ 2 + length (x .lits) = cc in
+    let named : d .id ≡ id + 1 = cc in
+    (omega (arith, clause-short ws [] (omega arith) q), named, ltb-true id 2147483647 t)))
+    (λ f. rw f (λ n d e. let z : _≡_ {A = ℕ} 0 1 = cc in absurd (omega arith)))
+
+first-moved : (text : List ℕ) (r : Read Cnf) → Moved 0 (yield-first text r .0)
+first-moved text (faulty f) = λ n d e. let z : _≡_ {A = ℕ} 0 1 = cc in absurd (omega arith)
+first-moved text (sound x) = clause-moved 0 (body-words text) _ refl
+
+moved : (text : List ℕ) (c : Cursor) → Moved (c .id) (yields text c .0)
+moved text c = by-cases (eqb (c .id) 0)
+    (λ t. let none = eqb-true (c .id) 0 t in rw none (first-moved text (read-text text)))
+    (λ f. rw f (clause-moved (c .id) (words-left text (c .at)) _ refl))
+
+pub record HandedOut (c : Cursor) (frame : List ℤ) (n : ℕ) (d : Cursor) (frame′ : List ℤ) : Type 0 where
+  pub short : n ≤ 258
+  pub named : d .id ≡ c .id + 1
+  pub last : d .id ≤ 2147483647
+  pub wide : length frame′ ≡ length frame
+
+pub handed-out : (text : List ℕ) (c : Cursor) (frame frame′ : List ℤ) (n : ℕ) (d : Cursor) → (Frame n d, frame′) ≡ yields-into text c frame
+    → HandedOut c frame n d frame′
+handed-out text c frame frame′ n d e =
+    let h = fits text c frame frame′ n d e in
+    let all = e ∙ enough text c frame h in
+    let called = sym (ap (λ (x : Yield × List ℤ). x .0) all) in
+    let (short, named, before) = moved text c n d called in
+    let words = yields text c .1 in
+    let few : length words ≤ length frame = omega (arith, counted text c n d called) in
+    record {
+      short = short;
+      named = named;
+      last = omega arith;
+      wide = ap length (ap (λ (x : Yield × List ℤ). x .1) all) ∙ length-over frame words few;
+    }
+
+-- ---- frames that lead on
+
+pub leads-none : (text : List ℕ) (c : Cursor) → Leads text c [] c
+leads-none text c = λ gs r s. s
+
+-- one frame more
+pub leads-on : {text : List ℕ} {c d : Cursor} (fs : List (List ℤ)) → Leads text c fs d → (frame : List ℤ) (n : ℕ) (e : Cursor) (frame′ : List ℤ)
+    → (Frame n e, frame′) ≡ yields-into text d frame → Leads text c (fs ++ (take n frame′ ∷ [])) e
+leads-on fs l frame n e frame′ q = λ gs r s. let whole = l _ r (then-frame frame n e frame′ q s) in rw (append-assoc fs (take n frame′ ∷ []) gs) whole
+
+-- no frame more
+pub leads-end : {text : List ℕ} {c d : Cursor} (fs : List (List ℤ)) → Leads text c fs d → {r : Yield} → Series text d [] r → Series text c fs r
+leads-end fs l {r} s = let whole = l [] r s in rw (append-nil fs) at whole
 
 -- ---- any two series from one cursor agree
 

@@ -1,6 +1,6 @@
 -- Calls of `next` one after the other, each with the cursor that the one before handed back, and with any buffer.
 use mathlib.Core.Path.{_≡_}
-use mathlib.Core.List.{List, [], _∷_}
+use mathlib.Core.List.{List, [], _∷_, _++_}
 use Prim.Native.Nat.{ℕ, _≤_}
 use lib.IntN.{ℤ}
 use lib.ListN.{length, take}
@@ -16,3 +16,7 @@ pub data Series (text : List ℕ) : Cursor → List (List ℤ) → Yield → Typ
       ((n : ℕ) (d : Cursor) → r ≡ Frame n d → ⊥) → Series text c [] r
   then-frame : {c : Cursor} (frame : List ℤ) (n : ℕ) (d : Cursor) (frame′ : List ℤ) → (Frame n d, frame′) ≡ yields-into text c frame →
       {fs : List (List ℤ)} {r : Yield} → Series text d fs r → Series text c (take n frame′ ∷ fs) r
+
+-- whatever calls hand out from d on, calls from c on hand out behind the frames fs
+abbrev pub Leads : List ℕ → Cursor → List (List ℤ) → Cursor → Type 0
+Leads text c fs d = (gs : List (List ℤ)) (r : Yield) → Series text d gs r → Series text c (fs ++ gs) r
