@@ -8,12 +8,9 @@ use native.Mathlib.Nat.{pow-suc}
 use lib.ListN.{length, take, drop, set, length-append, length-set}
 use lib.Seq.{take-suc-set, drop-set-lt}
 use lib.Pow.{pow-add}
-use Rattle.rules.specs.declared.Answer.{Answer}
 use Rattle.line_hex.specs.Hex.{glyph, hex}
 use Rattle.line_hex.proofs.Digits.{hex-length}
-use Rattle.line_read.specs.Lines.{numbered}
 use Rattle.line_read.specs.Lent.{Wrote}
-use Rattle.line_read.proofs.Replies.{numbered-length}
 use Rattle.text.proofs.Slices.{drop-further}
 
 pub wrote-none : (o : List ℕ) (a : ℕ) → Wrote o a [] o a
@@ -36,10 +33,6 @@ wrote-as {o} {xs} {ys} {o₁} {a} {a₁} e w = rw e at w
 
 pub hex-end : {o : List ℕ} {at : ℕ} (k n : ℕ) {o′ : List ℕ} {a : ℕ} → Wrote o at (hex k n) o′ a → a ≡ at + k
 hex-end k n w = omega (arith, w .place, hex-length k n)
-
--- the place behind code and detail
-pub numbered-end : {o : List ℕ} {at : ℕ} (x : Answer) {o′ : List ℕ} {a : ℕ} → Wrote o at (numbered x) o′ a → a ≡ at + 16
-numbered-end x w = omega (arith, w .place, numbered-length x)
 
 sixteens : (k : ℕ) → 2 ^ (4 * k) ≡ 16 ^ k
 sixteens zero = refl

@@ -1,7 +1,7 @@
 use borrow.Author.Needs.{needs}
-use Rattle.line_reply.proofs.Writing.{wrote-one}
-use Rattle.line_reply.proofs.put.Statement.{statement}
-use Rattle.line_reply.proofs.put.Tie as tie
+use Rattle.line_put.proofs.Writing.{wrote-one}
+use Rattle.line_put.proofs.put.Statement.{statement}
+use Rattle.line_put.proofs.put.Tie as tie
 
 slice-write-out : tie.Need-slice-write-out
 slice-write-out c = search needs

@@ -1,8 +1,8 @@
 use borrow.Author.Needs.{needs}
 use borrow.Author.Tests.{lt-ltb, le-ltb}
 use Rattle.line_hex.specs.Hex.{glyph}
-use Rattle.line_reply.proofs.glyph_of.Statement.{statement}
-use Rattle.line_reply.proofs.glyph_of.Tie as tie
+use Rattle.line_put.proofs.glyph_of.Statement.{statement}
+use Rattle.line_put.proofs.glyph_of.Tie as tie
 
 cast-result : tie.Need-cast-result
 cast-result c = search needs

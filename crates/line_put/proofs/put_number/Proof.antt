@@ -1,9 +1,9 @@
 use mathlib.Core.Path.{refl}
 use native.Mathlib.Omega.{arith}
 use borrow.Author.Needs.{needs}
-use Rattle.line_reply.proofs.Writing.{Digiting, digiting-more, digiting-end}
-use Rattle.line_reply.proofs.put_number.Statement.{statement}
-use Rattle.line_reply.proofs.put_number.Tie as tie
+use Rattle.line_put.proofs.Writing.{Digiting, digiting-more, digiting-end}
+use Rattle.line_put.proofs.put_number.Statement.{statement}
+use Rattle.line_put.proofs.put_number.Tie as tie
 
 abbrev Inv-loop : tie.InvT-loop
 Inv-loop out₀ at n a₀ k₀ out a k = Digiting out₀ at n out a k
