@@ -43,15 +43,29 @@ fn say_place(text: &[u8], at: usize) {
 // What a person can act on.
 fn say_words(fault: TextFault) {
     match fault {
-        TextFault::NoProblemLine(_) => say(b"the problem line is missing; a line \"p cnf VARIABLES CLAUSES\" stands before all clauses"),
-        TextFault::SecondProblemLine(_) => say(b"a second problem line; a text has one, before all clauses"),
-        TextFault::MalformedWord(_) => say(b"a malformed word; literals are numbers such as 5 and -5, 0 closes a clause, the problem line is \"p cnf VARIABLES CLAUSES\""),
-        TextFault::PastDeclared(_) => say(b"a literal past the variable count that the problem line declares"),
-        TextFault::VariableTwice(_) => say(b"a variable that its clause has already; a clause names a variable once"),
+        TextFault::NoProblemLine(_) => say(
+            b"the problem line is missing; a line \"p cnf VARIABLES CLAUSES\" stands before all clauses",
+        ),
+        TextFault::SecondProblemLine(_) => say(
+            b"a second problem line; a text has one, before all clauses",
+        ),
+        TextFault::MalformedWord(_) => say(
+            b"a malformed word; literals are numbers such as 5 and -5, 0 closes a clause, the problem line is \"p cnf VARIABLES CLAUSES\"",
+        ),
+        TextFault::PastDeclared(_) => say(
+            b"a literal past the variable count that the problem line declares",
+        ),
+        TextFault::VariableTwice(_) => say(
+            b"a variable that its clause has already; a clause names a variable once",
+        ),
         TextFault::LongClause(_) => say(b"the 257th literal of a clause; a clause has at most 256"),
         TextFault::VarsOutOfRange(_) => say(b"a variable count outside 1 to 2,048"),
-        TextFault::UnclosedClause(_) => say(b"the text ends inside a clause; the 0 that closes it is missing"),
-        TextFault::WrongClauseCount(_) => say(b"the text ends with more or fewer clauses than its problem line declares"),
+        TextFault::UnclosedClause(_) => say(
+            b"the text ends inside a clause; the 0 that closes it is missing",
+        ),
+        TextFault::WrongClauseCount(_) => say(
+            b"the text ends with more or fewer clauses than its problem line declares",
+        ),
     }
     say(b"\n");
 }
@@ -112,7 +126,9 @@ fn main() {
     let input = text_input::read_whole(&mut buf);
     match input {
         Input::Whole(n) => print_text(&buf[..n]),
-        Input::Larger => say(b"zahrubel: the text is larger than 1,048,576 bytes, which is all that this program holds; the library takes any length\n"),
+        Input::Larger => say(
+            b"zahrubel: the text is larger than 1,048,576 bytes, which is all that this program holds; the library takes any length\n",
+        ),
         Input::Unread => os::fail(b"zahrubel: cannot read the text"),
     }
 }
