@@ -34,9 +34,9 @@ fn inside(text: &[u8], at: usize) -> usize
 fn say_place(text: &[u8], at: usize) {
     let place = text::place_of(text, inside(text, at));
     say(b"zahrubel: line ");
-    io::number::print_decimal(2, place.line as u64);
+    io::print_decimal(2, place.line as u64);
     say(b", column ");
-    io::number::print_decimal(2, place.column as u64);
+    io::print_decimal(2, place.column as u64);
     say(b": ");
 }
 
@@ -98,8 +98,16 @@ fn send(lines: &[u8]) -> bool {
     sent
 }
 
+// Room for the longest frame.
+fn frame_buffer() -> [i32; 258]
+    ensures { λ r. ⌜ 258 ≡ length r ⌝ }
+{
+    [0i32; 258]
+}
+
+// Prints a text's frames to the last, or says why there are none.
 fn print_text(text: &[u8]) {
-    let mut frame = [0i32; 258];
+    let mut frame = frame_buffer();
     let mut out = io::large_buffer();
     let mut cursor = Cursor { at: 0, id: 0 };
     loop {
