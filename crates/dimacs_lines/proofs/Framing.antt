@@ -21,7 +21,7 @@ unfolding words-in-hex
 words-length [] = refl
 words-length (w ∷ ws) = omega (arith, length-append (hex 8 (unsigned w)) (words-in-hex ws), hex-length 8 (unsigned w), words-length ws)
 
-words-append : (vs ws : List ℤ) → words-in-hex (vs ++ ws) ≡ words-in-hex vs ++ words-in-hex ws
+pub words-append : (vs ws : List ℤ) → words-in-hex (vs ++ ws) ≡ words-in-hex vs ++ words-in-hex ws
 unfolding words-in-hex
 words-append [] ws = refl
 words-append (v ∷ vs) ws =

@@ -24,7 +24,9 @@ pub fn put_fault(out: &mut [u8], at: usize, fault: TextFault) -> usize
     requires { ⌜ at + 17 ≤ length (now out) ⌝ }
     ensures { λ r. ⌜ Wrote (now (out .entry)) at (fault-line fault) (now (out .exit)) r ⌝ }
 {
-    let a = line_put::put_number(out, at, dimacs_codes::code(fault) as usize);
-    let b = line_put::put_number(out, a, dimacs_codes::position(fault));
+    let code = dimacs_codes::code(fault) as usize;
+    let position = dimacs_codes::position(fault);
+    let a = line_put::put_number(out, at, code);
+    let b = line_put::put_number(out, a, position);
     line_put::put(out, b, 10)
 }
