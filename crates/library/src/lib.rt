@@ -5,8 +5,15 @@ ghost use mathlib.Core.Bool.{cond};
 ghost use Rattle.lent_entries.specs.Lent.{Spans, clause-at, entry-at, witness-at};
 ghost use Rattle.library.specs.Exported.{EndHanding, EndExported, GiveExported, PartHanding, Names, Numbered, OpenExported, StepExported, carried-after};
 ghost use Rattle.library.specs.Exported.{read-after, reader-of, reading-of};
+ghost use Rattle.library.specs.Texts.{Told, CnfHanding, JudgeExported, NextHanding, NextExported};
+ghost use Rattle.dimacs.specs.Reading.{fault-numbers};
+ghost use Rattle.dimacs_frames.specs.Yields.{yield-numbers, cursor-after};
 use call_give::Ended;
 use call_give::Given;
+use dimacs::TextAnswer;
+use dimacs::TextFault;
+use dimacs_frames::Cursor;
+use dimacs_frames::Yield;
 use lent::Called;
 use lent::Carried;
 use lent_entries::Entry;
@@ -282,5 +289,117 @@ pub extern "C" fn zahrubel_end(reader: &Reading, out: &mut [u8], written: &mut u
 {
     let back = end_back(call_give::end(reader_of(*reader), out));
     *written = back.written;
+    back.numbers
+}
+
+// ---- rules as DIMACS text
+
+// What a text without fault has: V, and so many clauses.
+#[repr(C)]
+pub struct Cnf {
+    pub vars: u64,
+    pub clauses: u64,
+}
+
+fn numbers_of_fault(fault: TextFault) -> Numbers
+    ensures { λ r. ⌜ Told (fault-numbers fault) r ⌝ }
+{
+    Numbers {
+        code: wide(dimacs_codes::code(fault)),
+        detail: word(dimacs_codes::position(fault)),
+    }
+}
+
+// What judging a text came to, as it goes back.
+struct CnfHanded {
+    pub numbers: Numbers,
+    pub cnf: Cnf,
+}
+
+// A faulty text leaves what was there before.
+fn judge_back(answer: TextAnswer, before: Cnf) -> CnfHanded
+    ensures { λ r. ⌜ CnfHanding answer before r ⌝ }
+{
+    match answer {
+        TextAnswer::Sound(vars, clauses) => CnfHanded {
+            numbers: Numbers { code: 0, detail: 0 },
+            cnf: Cnf {
+                vars: wide(vars),
+                clauses: word(clauses),
+            },
+        },
+        TextAnswer::Faulty(fault) => CnfHanded {
+            numbers: numbers_of_fault(fault),
+            cnf: before,
+        },
+    }
+}
+
+// Judges a text of any bytes. V and the number of its clauses are written where it has no fault.
+#[no_mangle]
+pub extern "C" fn zahrubel_dimacs_judge(text: &[u8], cnf: &mut Cnf) -> Numbers
+    ensures { λ r. ⌜ JudgeExported (now (text .entry)) (now (cnf .entry)) r (now (cnf .exit)) ⌝ }
+{
+    let back = judge_back(dimacs_judge::judge(text), *cnf);
+    *cnf = back.cnf;
+    back.numbers
+}
+
+// What a text yielded, as it goes back.
+struct NextHanded {
+    pub numbers: Numbers,
+    pub cursor: Cursor,
+}
+
+fn numbers_of_yield(yielded: Yield) -> Numbers
+    ensures { λ r. ⌜ Told (yield-numbers yielded) r ⌝ }
+{
+    match yielded {
+        Yield::Frame(words, _) => Numbers {
+            code: 0,
+            detail: word(words),
+        },
+        Yield::NoneLeft => Numbers { code: 0, detail: 0 },
+        Yield::Faulty(fault) => numbers_of_fault(fault),
+        Yield::NoBuffer => Numbers { code: 1, detail: 0 },
+        Yield::NoId => Numbers {
+            code: 4,
+            detail: 2147483648,
+        },
+    }
+}
+
+fn cursor_after(yielded: Yield, before: Cursor) -> Cursor
+    ensures { λ r. ⌜ r ≡ cursor-after yielded before ⌝ }
+{
+    match yielded {
+        Yield::Frame(_, cursor) => cursor,
+        Yield::NoneLeft => before,
+        Yield::Faulty(_) => before,
+        Yield::NoBuffer => before,
+        Yield::NoId => before,
+    }
+}
+
+fn next_back(yielded: Yield, before: Cursor) -> NextHanded
+    ensures { λ r. ⌜ NextHanding yielded before r ⌝ }
+{
+    NextHanded {
+        numbers: numbers_of_yield(yielded),
+        cursor: cursor_after(yielded, before),
+    }
+}
+
+// The next clause of a text as a frame, with the cursor behind a reference: it is written back as the call hands it back.
+#[no_mangle]
+pub extern "C" fn zahrubel_dimacs_next(
+    text: &[u8],
+    cursor: &mut Cursor,
+    frame: &mut [i32],
+) -> Numbers
+    ensures { λ r. ⌜ NextExported (now (text .entry)) (now (cursor .entry)) (now (frame .entry)) r (now (cursor .exit)) (now (frame .exit)) ⌝ }
+{
+    let back = next_back(dimacs_frames::next(text, *cursor, frame), *cursor);
+    *cursor = back.cursor;
     back.numbers
 }
