@@ -1,4 +1,5 @@
 //! Texts read through the archive, with an eye on every word that is lent.
+#![allow(dead_code)] // the long run needs no cursors but those handed out
 
 use second::dimacs::is_blank;
 use second::texts::run::Reads;
