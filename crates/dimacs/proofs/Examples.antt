@@ -1,18 +1,19 @@
--- Small texts, and what they are read as, by computing. They are short, for a checker that computes both cases of every test: each byte doubles the work.
+-- Small texts, and what they are read as, by computing.
 use mathlib.Core.Path.{_≡_, refl}
 use mathlib.Core.List.{List, [], _∷_, map}
 use mathlib.Core.Option.{Option, none, some}
-use Prim.Native.Nat.{ℕ}
+use Prim.Native.Nat.{ℕ, zero, suc}
 use Prim.Native.Char.{code}
 use Prim.Native.String.{String, [] as end, _∷_ as _on_}
-use lib.IntN.{ℤ}
+use lib.IntN.{ℤ, pos}
 use Rattle.rules.specs.Lists.{any-passes, all-pass}
 use Rattle.rules.specs.Outcomes.{_⊞_, _⊟_}
 use Rattle.text.specs.Words.{text-lines, line-words, words-of-lines}
-use Rattle.text_numbers.specs.Numbers.{said-on, natural-of, integer-of}
+use Rattle.text_numbers.specs.Numbers.{said-on, natural-of, integer-of, decimal-in}
 use Rattle.dimacs.specs.Reading.{fault-numbers, Read, faulty, sound, expect, expect-number, clause-word, take-word, read-clauses, Cnf, read-number, read-format}
 use Rattle.dimacs.specs.Reading.{read-problem, read-text}
 use Rattle.dimacs.specs.Frames.{add-frames, frames-of}
+use Rattle.dimacs.specs.Writing.{clause-text, clauses-text, cnf-text}
 
 -- the bytes between the quotes
 pub quoted : String → List ℕ
@@ -92,6 +93,16 @@ pub faulty-examples : map (λ x. fault-of (read-text (quoted (x .0)))) faulty-te
 unfolding quoted faulty-texts any-passes all-pass text-lines line-words words-of-lines said-on natural-of integer-of expect expect-number clause-word take-word
     read-clauses read-number read-format read-problem
 faulty-examples = refl
+
+-- a clause of 257 literals: at the last of them
+pub upto : ℕ → List ℤ → List ℤ
+upto zero c = c
+upto (suc n) c = upto n (pos (suc n) ∷ c)
+
+pub long-example : fault-of (read-text (cnf-text 257 (upto 257 [] ∷ []))) ≡ some (26, 928)
+unfolding upto clause-text clauses-text decimal-in any-passes all-pass text-lines line-words words-of-lines said-on natural-of integer-of expect expect-number clause-word
+    take-word read-clauses read-number read-format read-problem
+long-example = refl
 
 -- ---- frames
 

@@ -77,10 +77,10 @@ module _ (text : List ℕ) (c : Cursor) where
 -- ---- what a call that hands out a frame comes to
 
 -- the frame has at most 258 words, and the next id is the cursor's
-abbrev Moved : ℕ → Yield → Type 0
-Moved id r = (n : ℕ) (d : Cursor) → r ≡ Frame n d → (n ≤ 258) × (d .id ≡ id + 1) × (id < 2147483647)
+abbrev Onward : ℕ → Yield → Type 0
+Onward id r = (n : ℕ) (d : Cursor) → r ≡ Frame n d → (n ≤ 258) × (d .id ≡ id + 1) × (id < 2147483647)
 
-clause-moved : (id : ℕ) (ws : List TextWord) (o : Option ClosedClause) → next-clause [] ws ≡ o → Moved id (yield-clause id o .0)
+clause-moved : (id : ℕ) (ws : List TextWord) (o : Option ClosedClause) → next-clause [] ws ≡ o → Onward id (yield-clause id o .0)
 clause-moved id ws none q = λ n d e. let z : _≡_ {A = ℕ} 0 1 = cc in absurd (omega arith)
 clause-moved id ws (some x) q = by-cases (ltb id 2147483647)
     (λ t.
@@ -90,11 +90,11 @@ clause-moved id ws (some x) q = by-cases (ltb id 2147483647)
     (omega (arith, clause-short ws [] (omega arith) q), named, ltb-true id 2147483647 t)))
     (λ f. rw f (λ n d e. let z : _≡_ {A = ℕ} 0 1 = cc in absurd (omega arith)))
 
-first-moved : (text : List ℕ) (r : Read Cnf) → Moved 0 (yield-first text r .0)
+first-moved : (text : List ℕ) (r : Read Cnf) → Onward 0 (yield-first text r .0)
 first-moved text (faulty f) = λ n d e. let z : _≡_ {A = ℕ} 0 1 = cc in absurd (omega arith)
 first-moved text (sound x) = clause-moved 0 (body-words text) _ refl
 
-moved : (text : List ℕ) (c : Cursor) → Moved (c .id) (yields text c .0)
+moved : (text : List ℕ) (c : Cursor) → Onward (c .id) (yields text c .0)
 moved text c = by-cases (eqb (c .id) 0)
     (λ t. let none = eqb-true (c .id) 0 t in rw none (first-moved text (read-text text)))
     (λ f. rw f (clause-moved (c .id) (words-left text (c .at)) _ refl))

@@ -21,7 +21,7 @@ use Rattle.dimacs.specs.Reading.{faulty, expect, expect-number, spells, read-cl
 use Rattle.dimacs.specs.Reading.{read-format, read-problem, read-text, body-words}
 use Rattle.dimacs.specs.declared.TextFault.the-variants.{NoProblemLine, MalformedWord, VarsOutOfRange}
 use Rattle.dimacs_problem.specs.Told.{More, CountTold, ProblemTold}
-use Rattle.dimacs_problem.specs.declared.Count.the-variants.{Counted, Uncounted}
+use Rattle.dimacs_problem.specs.declared.CountWord.the-variants.{Counted, Uncounted}
 use Rattle.dimacs_problem.specs.declared.Problem.the-variants.{Declared, Undeclared}
 use Rattle.dimacs_problem.proofs.Spelling.{spells-length, word-short}
 

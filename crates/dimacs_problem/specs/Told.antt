@@ -9,8 +9,8 @@ use Rattle.text.specs.Places.{Behind}
 use Rattle.text_numbers.specs.Told.{capped}
 use Rattle.dimacs.specs.Reading.{Read, faulty, Cnf, read-clauses, counted, read-number}
 use Rattle.dimacs.specs.declared.TextFault.the-variants.{MalformedWord}
-use Rattle.dimacs_problem.specs.declared.Count.{Count}
-use Rattle.dimacs_problem.specs.declared.Count.the-variants.{Counted, Uncounted}
+use Rattle.dimacs_problem.specs.declared.CountWord.{CountWord}
+use Rattle.dimacs_problem.specs.declared.CountWord.the-variants.{Counted, Uncounted}
 use Rattle.dimacs_problem.specs.declared.Problem.{Problem}
 use Rattle.dimacs_problem.specs.declared.Problem.the-variants.{Declared, Undeclared}
 
@@ -27,7 +27,7 @@ pub record CountRead (text : List ℕ) (ws : List TextWord) (v at end : ℕ) : T
   pub rest : words-from false end text ≡ drop 1 ws
   pub read-on : (more : More) → read-number (length text) ws more ≡ more at number (words-from false end text)
 
-abbrev pub CountTold : List ℕ → List TextWord → Count → Type 0
+abbrev pub CountTold : List ℕ → List TextWord → CountWord → Type 0
 CountTold text ws (Counted v at end) = CountRead text ws v at end
 CountTold text ws (Uncounted at) = (more : More) → read-number (length text) ws more ≡ faulty (MalformedWord at)
 

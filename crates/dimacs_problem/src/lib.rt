@@ -35,25 +35,25 @@ fn is_cnf(text: &[u8], at: usize) -> bool
 }
 
 // A number of the problem line: its value, where it starts and ends. Else where the word starts that stands in its place, or the text's length.
-enum Count {
+enum CountWord {
     Counted(u64, usize, usize),
     Uncounted(usize),
 }
 
 // The next word behind a word of the problem line, as a number of it.
-fn read_number(text: &[u8], from: usize) -> Count
+fn read_number(text: &[u8], from: usize) -> CountWord
     requires { ⌜ from ≤ length (now text) ⌝ }
     ensures { λ r. ⌜ CountTold (now (text .entry)) (words-from false from (now (text .entry))) r ⌝ }
 {
     let w = text::seek(text, from, false);
     let at = w.at;
     if w.first {
-        return Count::Uncounted(at);
+        return CountWord::Uncounted(at);
     }
     let look = text_numbers::read_numeral(text, at);
     match look {
-        Numeral::Number(n, end) => Count::Counted(n, at, end),
-        Numeral::NoNumber => Count::Uncounted(at),
+        Numeral::Number(n, end) => CountWord::Counted(n, at, end),
+        Numeral::NoNumber => CountWord::Uncounted(at),
     }
 }
 
@@ -71,8 +71,8 @@ fn read_count(text: &[u8], from: usize, vars: u32) -> Problem
 {
     let look = read_number(text, from);
     match look {
-        Count::Uncounted(at) => Problem::Undeclared(TextFault::MalformedWord(at)),
-        Count::Counted(n, _, end) => {
+        CountWord::Uncounted(at) => Problem::Undeclared(TextFault::MalformedWord(at)),
+        CountWord::Counted(n, _, end) => {
             let w = text::seek(text, end, false);
             let at = w.at;
             if at < text.len() {
@@ -93,8 +93,8 @@ fn read_vars(text: &[u8], from: usize) -> Problem
 {
     let look = read_number(text, from);
     match look {
-        Count::Uncounted(at) => Problem::Undeclared(TextFault::MalformedWord(at)),
-        Count::Counted(n, at, end) => {
+        CountWord::Uncounted(at) => Problem::Undeclared(TextFault::MalformedWord(at)),
+        CountWord::Counted(n, at, end) => {
             if n < 1 {
                 return Problem::Undeclared(TextFault::VarsOutOfRange(at));
             }

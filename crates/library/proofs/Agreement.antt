@@ -17,7 +17,7 @@ use Rattle.dimacs_frames.specs.declared.Cursor.{Cursor}
 use Rattle.call_demands.proofs.Agreement.{same-opening, Words, Agree, same-outcome, AgreeGiven, same-given, same-end}
 use Rattle.library.specs.Exported.{Numbered, carried-after, OpenExported, StepExported, Names, reader-of, read-after, GiveExported, EndExported}
 use Rattle.library.specs.Texts.{Told, judged-numbers, JudgeExported, NextExported}
-use Rattle.library.specs.declared.Cnf.{Cnf}
+use Rattle.library.specs.declared.CnfCounts.{CnfCounts}
 use Rattle.library.specs.declared.Numbers.{Numbers}
 use Rattle.library.specs.declared.Part.{Part}
 use Rattle.library.specs.declared.Reading.{Reading}
@@ -78,7 +78,7 @@ parts-agree pool from many words r q a b =
     let s = a .0 .starts ∙ sym (b .0 .starts) in
     ap₂ (λ x y. record { start = x; length = y }) s (a .0 .long ∙ ap (λ x. min many (length pool - x)) s ∙ sym (b .0 .long))
 
-pub judges-agree : {text : List ℕ} {cnf : Cnf} {r q : Numbers} {cnf₁ cnf₂ : Cnf} → JudgeExported text cnf r cnf₁ → JudgeExported text cnf q cnf₂ →
+pub judges-agree : {text : List ℕ} {cnf : CnfCounts} {r q : Numbers} {cnf₁ cnf₂ : CnfCounts} → JudgeExported text cnf r cnf₁ → JudgeExported text cnf q cnf₂ →
     (r ≡ q) × (cnf₁ ≡ cnf₂)
 judges-agree {text} a b = (same-told (judged-numbers (judged-text (read-text text))) (a .told) (b .told), a .handed-back ∙ sym (b .handed-back))
 

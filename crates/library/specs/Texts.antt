@@ -11,7 +11,7 @@ use Rattle.dimacs_frames.specs.Yields.{yields-into, yield-numbers, cursor-after
 use Rattle.dimacs_frames.specs.declared.Cursor.{Cursor}
 use Rattle.dimacs_frames.specs.declared.Yield.{Yield}
 use Rattle.library.specs.declared.Numbers.{Numbers}
-use Rattle.library.specs.declared.Cnf.{Cnf}
+use Rattle.library.specs.declared.CnfCounts.{CnfCounts}
 use Rattle.library.specs.declared.CnfHanded.{CnfHanded}
 use Rattle.library.specs.declared.NextHanded.{NextHanded}
 
@@ -26,14 +26,14 @@ judged-numbers (Sound vars clauses) = (0, 0)
 judged-numbers (Faulty f) = fault-numbers f
 
 -- V and the number of clauses; a faulty text leaves every word
-abbrev pub cnf-after : TextAnswer → Cnf → Cnf
+abbrev pub cnf-after : TextAnswer → CnfCounts → CnfCounts
 cnf-after (Sound vars clauses) before = record { vars = vars; clauses = clauses }
 cnf-after (Faulty f) before = before
 
-abbrev pub CnfHanding : TextAnswer → Cnf → CnfHanded → Type 0
+abbrev pub CnfHanding : TextAnswer → CnfCounts → CnfHanded → Type 0
 CnfHanding answer before h = Told (judged-numbers answer) (h .numbers) × (h .cnf ≡ cnf-after answer before)
 
-pub record JudgeExported (text : List ℕ) (cnf : Cnf) (r : Numbers) (cnf′ : Cnf) : Type 0 where
+pub record JudgeExported (text : List ℕ) (cnf : CnfCounts) (r : Numbers) (cnf′ : CnfCounts) : Type 0 where
   pub told : Told (judged-numbers (judged-text (read-text text))) r
   pub handed-back : cnf′ ≡ cnf-after (judged-text (read-text text)) cnf
 

@@ -296,7 +296,7 @@ pub extern "C" fn zahrubel_end(reader: &Reading, out: &mut [u8], written: &mut u
 
 // What a text without fault has: V, and so many clauses.
 #[repr(C)]
-pub struct Cnf {
+pub struct CnfCounts {
     pub vars: u64,
     pub clauses: u64,
 }
@@ -313,17 +313,17 @@ fn numbers_of_fault(fault: TextFault) -> Numbers
 // What judging a text came to, as it goes back.
 struct CnfHanded {
     pub numbers: Numbers,
-    pub cnf: Cnf,
+    pub cnf: CnfCounts,
 }
 
 // A faulty text leaves what was there before.
-fn judge_back(answer: TextAnswer, before: Cnf) -> CnfHanded
+fn judge_back(answer: TextAnswer, before: CnfCounts) -> CnfHanded
     ensures { λ r. ⌜ CnfHanding answer before r ⌝ }
 {
     match answer {
         TextAnswer::Sound(vars, clauses) => CnfHanded {
             numbers: Numbers { code: 0, detail: 0 },
-            cnf: Cnf {
+            cnf: CnfCounts {
                 vars: wide(vars),
                 clauses: word(clauses),
             },
@@ -337,7 +337,7 @@ fn judge_back(answer: TextAnswer, before: Cnf) -> CnfHanded
 
 // Judges a text of any bytes. V and the number of its clauses are written where it has no fault.
 #[no_mangle]
-pub extern "C" fn zahrubel_dimacs_judge(text: &[u8], cnf: &mut Cnf) -> Numbers
+pub extern "C" fn zahrubel_dimacs_judge(text: &[u8], cnf: &mut CnfCounts) -> Numbers
     ensures { λ r. ⌜ JudgeExported (now (text .entry)) (now (cnf .entry)) r (now (cnf .exit)) ⌝ }
 {
     let back = judge_back(dimacs_judge::judge(text), *cnf);

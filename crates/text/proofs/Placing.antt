@@ -8,7 +8,7 @@ use lib.Dec.{eqb}
 use lib.ListN.{length, getD}
 use lib.Seq.{slice, slice-empty, slice-cons}
 use Rattle.rules.proofs.Lists.{by-cases}
-use Rattle.text.specs.Places.{place-on, place-of}
+use Rattle.text.specs.Places.{place-on, text-place}
 use Rattle.text.specs.declared.Place.{Place}
 
 -- from the place p, which byte i has, the bytes up to `at` lead on to its place
@@ -16,7 +16,7 @@ pub record Placing (text : List ℕ) (at : ℕ) (p : Place) (i : ℕ) : Type 0 w
   pub inside : i ≤ at
   pub lines : p .line ≤ i + 1
   pub columns : p .column ≤ i + 1
-  pub rest : place-on (p .line) (p .column) (slice i at text) ≡ place-of text at
+  pub rest : place-on (p .line) (p .column) (slice i at text) ≡ text-place text at
 
 pub placing-none : (text : List ℕ) (at : ℕ) → Placing text at (record { line = 1; column = 1 }) 0
 placing-none text at = record { inside = omega arith; lines = omega arith; columns = omega arith; rest = refl }
@@ -38,7 +38,7 @@ placing-more {text} {at} {i} {p} s h k q e =
       rest = sym (more .0) ∙ ap (place-on (p .line) (p .column)) (rw add-one (sym (slice-cons i at text 0 h k))) ∙ s .rest;
     })
 
-pub placing-all : {text : List ℕ} {at i : ℕ} {p : Place} → Placing text at p i → at ≤ i → p ≡ place-of text at
+pub placing-all : {text : List ℕ} {at i : ℕ} {p : Place} → Placing text at p i → at ≤ i → p ≡ text-place text at
 unfolding place-on
 placing-all {text} {at} {i} {p} s h =
     let e : i ≡ at = omega (arith, s .inside) in

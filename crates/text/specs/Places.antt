@@ -39,8 +39,8 @@ unfoldable pub place-on : ℕ → ℕ → List ℕ → Place
 place-on line column [] = record { line = line; column = column }
 place-on line column (b ∷ bs) = cond (eqb b 10) (place-on (line + 1) 1 bs) (place-on line (column + 1) bs)
 
-abbrev pub place-of : List ℕ → ℕ → Place
-place-of text at = place-on 1 1 (take at text)
+abbrev pub text-place : List ℕ → ℕ → Place
+text-place text at = place-on 1 1 (take at text)
 
 -- ---- words
 

@@ -4,7 +4,7 @@ ghost use mathlib.Core.List.{[], _∷_};
 ghost use Prim.Native.Nat.{_≤_, _<_};
 ghost use lib.ListN.{length};
 ghost use Rattle.text.specs.Words.{is-blank};
-ghost use Rattle.text.specs.Places.{LineEnds, PastComments, Seeks, SeeksFirst, place-on, place-of};
+ghost use Rattle.text.specs.Places.{LineEnds, PastComments, Seeks, SeeksFirst, place-on, text-place};
 
 // Where the bytes of a line end: at its LF, or with the text.
 pub fn line_end(text: &[u8], from: usize) -> usize
@@ -105,7 +105,7 @@ fn onward(p: Place, b: u8) -> Place
 
 pub fn place_of(text: &[u8], at: usize) -> Place
     requires { ⌜ at ≤ length (now text) ⌝ }
-    ensures { λ r. ⌜ r ≡ place-of (now (text .entry)) at ⌝ }
+    ensures { λ r. ⌜ r ≡ text-place (now (text .entry)) at ⌝ }
 {
     let mut place = Place { line: 1, column: 1 };
     let mut i: usize = 0;

@@ -7,10 +7,10 @@ use Rattle.text_input.specs.declared.Input.{Input}
 use Rattle.text_input.specs.declared.Input.the-variants.{Whole, Larger, Unread}
 
 -- all of it are the first n bytes of the buffer
-abbrev pub Inside : List ℕ → Input → Type 0
-Inside buf (Whole n) = n ≤ length buf
-Inside buf Larger = Unit
-Inside buf Unread = Unit
+abbrev pub InsideInput : List ℕ → Input → Type 0
+InsideInput buf (Whole n) = n ≤ length buf
+InsideInput buf Larger = Unit
+InsideInput buf Unread = Unit
 
 -- it has k bytes
 abbrev pub Long : ℕ → Input → Type 0

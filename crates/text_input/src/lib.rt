@@ -2,7 +2,7 @@
 ghost use mathlib.Core.Path.{_≡_};
 ghost use Prim.Native.Nat.{_+_, _≤_};
 ghost use lib.ListN.{length};
-ghost use Rattle.text_input.specs.Input.{Inside, Long};
+ghost use Rattle.text_input.specs.Input.{InsideInput, Long};
 
 // Room for a text of 1 MiB.
 pub fn text_buffer() -> [u8; 1048576]
@@ -61,7 +61,7 @@ fn filled(done: usize) -> Input
 
 // Reads standard input to its end.
 pub fn read_whole(buf: &mut [u8]) -> Input
-    ensures { λ r. ⌜ Inside (now (buf .exit)) r ⌝ }
+    ensures { λ r. ⌜ InsideInput (now (buf .exit)) r ⌝ }
 {
     let mut done: usize = 0;
     while done < buf.len() {

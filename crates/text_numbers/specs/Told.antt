@@ -10,7 +10,7 @@ use lib.Seq.{slice}
 use Rattle.rules.specs.Lists.{all-pass}
 use Rattle.text.specs.Words.{is-blank}
 use Rattle.text_numbers.specs.Numbers.{is-decimal, said-on, natural-of, integer-of}
-use Rattle.text_numbers.specs.declared.Said.{Said}
+use Rattle.text_numbers.specs.declared.SaidDigits.{SaidDigits}
 use Rattle.text_numbers.specs.declared.Numeral.{Numeral}
 use Rattle.text_numbers.specs.declared.Numeral.the-variants.{Number, NoNumber}
 use Rattle.text_numbers.specs.declared.Integer.{Integer}
@@ -32,7 +32,7 @@ pub record Saying (text : List ℕ) (from v i : ℕ) : Type 0 where
   pub value : v ≡ capped (said-on 0 (slice from i text))
 
 -- all digits from a place on
-pub record Decimals (text : List ℕ) (from : ℕ) (r : Said) : Type 0 where
+pub record Decimals (text : List ℕ) (from : ℕ) (r : SaidDigits) : Type 0 where
   pub saying : Saying text from (r .value) (r .end)
   pub stops : r .end < length text → is-decimal (getD text (r .end) 0) ≡ false
 

@@ -26,7 +26,7 @@ pub fn is_digit(b: u8) -> bool
 }
 
 // What digits say, and where they end.
-pub struct Said {
+pub struct SaidDigits {
     pub value: u64,
     pub end: usize,
 }
@@ -38,7 +38,7 @@ pub fn wide(b: u8) -> u64
 }
 
 // The digits from a place on.
-fn digits(text: &[u8], from: usize) -> Said
+fn digits(text: &[u8], from: usize) -> SaidDigits
     requires { ⌜ from ≤ length (now text) ⌝ }
     ensures { λ r. ⌜ Decimals (now (text .entry)) from r ⌝ }
 {
@@ -52,7 +52,7 @@ fn digits(text: &[u8], from: usize) -> Said
         value = grown(value, wide(b) - 48);
         i += 1;
     }
-    Said { value, end: i }
+    SaidDigits { value, end: i }
 }
 
 // Whether no byte of a word stands at the place.

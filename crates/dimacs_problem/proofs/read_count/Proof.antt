@@ -4,7 +4,7 @@ use borrow.Author.Needs.{needs}
 use Rattle.rules.proofs.Lists.{not-true, not-false}
 use Rattle.text.specs.Words.{words-from}
 use Rattle.dimacs_problem.specs.Told.{CountTold}
-use Rattle.dimacs_problem.specs.declared.Count.the-variants.{Counted}
+use Rattle.dimacs_problem.specs.declared.CountWord.the-variants.{Counted}
 use Rattle.dimacs_problem.proofs.Line.{fifth-word, line-ended}
 use Rattle.dimacs_problem.proofs.read_count.Statement.{statement}
 use Rattle.dimacs_problem.proofs.read_count.Tie as tie

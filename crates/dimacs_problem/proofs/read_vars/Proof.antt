@@ -2,7 +2,7 @@ use mathlib.Core.Bool.{false}
 use borrow.Author.Needs.{needs}
 use Rattle.text.specs.Words.{words-from}
 use Rattle.dimacs_problem.specs.Told.{CountTold}
-use Rattle.dimacs_problem.specs.declared.Count.the-variants.{Counted}
+use Rattle.dimacs_problem.specs.declared.CountWord.the-variants.{Counted}
 use Rattle.dimacs_problem.proofs.Line.{no-vars, many-vars, vars-ranged, behind-vars}
 use Rattle.dimacs_problem.proofs.read_vars.Statement.{statement}
 use Rattle.dimacs_problem.proofs.read_vars.Tie as tie

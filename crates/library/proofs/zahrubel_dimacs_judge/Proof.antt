@@ -36,9 +36,9 @@ use Rattle.lent_entries.proofs.Steps.{_&_, a-slice, copy-of, field-of, sets, la
 use Rattle.lent_entries.proofs.Walks.{typed, made-of, Value, struct-value, spelled, Params, keeps-slice, sets-ref, values, Passing, Walk-at, brought, doubles}
 use Rattle.lent_entries.proofs.Walks.{starts, ends, stands, asks}
 use Rattle.library.specs.Texts.{CnfHanding}
-use Rattle.library.specs.declared.Cnf.{Cnf}
-use Rattle.library.proofs.Cnf as TC
-use Rattle.library.proofs.Cnf.Laws as TC′
+use Rattle.library.specs.declared.CnfCounts.{CnfCounts}
+use Rattle.library.proofs.CnfCounts as TC
+use Rattle.library.proofs.CnfCounts.Laws as TC′
 use Rattle.library.proofs.CnfHanded as TH
 use Rattle.library.proofs.CnfHanded.Laws as TH′
 use Rattle.library.proofs.Answering.{numbers-value}
@@ -78,7 +78,7 @@ module _ {M : Type 1} (𝓤 : URA M) (H : Heap 𝓤) (A : Atoms 𝓤) (mem : Mem
 module _ {M : Type 1} (𝓤 : URA M) (H : Heap 𝓤) (A : Atoms 𝓤) (W : Given 𝓤 H A) (mem : Memory → SProp 𝓤) (run : Routine → Fun 𝓤) (𝓣 : Tables 𝓤 H)
     (known-judge : Triple 𝓤 (𝓣 .C judge-def.name) (Judge 𝓤 H A mem run)) (known-back : Triple 𝓤 (𝓣 .C back-def.name) (Back 𝓤 H A mem run))
     (κs : Lfts 2) (qs : Shares 2) (bounds : Unit {0}) (a : Args f.signature κs) (g : Unit {0}) (are : Passing f.ended passed κs a) where
-  abbrev before : Cnf
+  abbrev before : CnfCounts
   before = a .1 .0 .now
 
   abbrev fm : FmC 𝓤 H (W .laws) (𝓣 .C)
