@@ -41,10 +41,10 @@ use Rattle.library_back.proofs.CnfCounts as TC
 use Rattle.library_back.proofs.CnfCounts.Laws as TC′
 use Rattle.library_back.proofs.CnfHanded as TH
 use Rattle.library_back.proofs.CnfHanded.Laws as TH′
-use Rattle.library.proofs.Answering.{numbers-value}
 use Rattle.library_back.proofs.judge_back as back
 use Rattle.library_back.proofs.judge_back.Symbol as back-def
 use Rattle.library_back.proofs.judge_back.Met as back-thm
+use Rattle.library.proofs.Answering.{numbers-value}
 use Rattle.library.proofs.zahrubel_dimacs_judge.Key as key
 use Rattle.library.proofs.zahrubel_dimacs_judge as f
 use Rattle.library.proofs.zahrubel_dimacs_judge.Statement as stated

@@ -43,10 +43,10 @@ use Rattle.lent_entries.proofs.Walks.{brought, doubles, starts, ends, stands, a
 use Rattle.library_back.specs.Told.{NextHanding}
 use Rattle.library_back.proofs.NextHanded as TH
 use Rattle.library_back.proofs.NextHanded.Laws as TH′
-use Rattle.library.proofs.Answering.{numbers-value}
 use Rattle.library_back.proofs.next_back as back
 use Rattle.library_back.proofs.next_back.Symbol as back-def
 use Rattle.library_back.proofs.next_back.Met as back-thm
+use Rattle.library.proofs.Answering.{numbers-value}
 use Rattle.library.proofs.zahrubel_dimacs_next.Key as key
 use Rattle.library.proofs.zahrubel_dimacs_next as f
 use Rattle.library.proofs.zahrubel_dimacs_next.Statement as stated

@@ -40,13 +40,13 @@ use Rattle.library_back.specs.declared.Reading.{Reading}
 use Rattle.library_back.proofs.EndHanded as TH
 use Rattle.library_back.proofs.EndHanded.Laws as TH′
 use Rattle.library_back.proofs.Reading as TX
-use Rattle.library.proofs.Answering.{reader-value, numbers-value, reading-value, Read}
 use Rattle.library_back.proofs.reader_of as read
 use Rattle.library_back.proofs.reader_of.Symbol as read-def
 use Rattle.library_back.proofs.reader_of.Met as read-thm
 use Rattle.library_back.proofs.end_back as back
 use Rattle.library_back.proofs.end_back.Symbol as back-def
 use Rattle.library_back.proofs.end_back.Met as back-thm
+use Rattle.library.proofs.Answering.{reader-value, numbers-value, reading-value, Read}
 use Rattle.library.proofs.zahrubel_end.Key as key
 use Rattle.library.proofs.zahrubel_end as f
 use Rattle.library.proofs.zahrubel_end.Statement as stated

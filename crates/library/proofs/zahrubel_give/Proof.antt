@@ -50,13 +50,13 @@ use Rattle.library_back.proofs.Counts.Laws as TK′
 use Rattle.library_back.proofs.PartHanded as TH
 use Rattle.library_back.proofs.PartHanded.Laws as TH′
 use Rattle.library_back.proofs.Reading as TX
-use Rattle.library.proofs.Answering.{answer-value, reader-value, numbers-value, reading-value, Read}
 use Rattle.library_back.proofs.reader_of as read
 use Rattle.library_back.proofs.reader_of.Symbol as read-def
 use Rattle.library_back.proofs.reader_of.Met as read-thm
 use Rattle.library_back.proofs.hand_back as hand
 use Rattle.library_back.proofs.hand_back.Symbol as hand-def
 use Rattle.library_back.proofs.hand_back.Met as hand-thm
+use Rattle.library.proofs.Answering.{answer-value, reader-value, numbers-value, reading-value, Read}
 use Rattle.library.proofs.zahrubel_give.Key as key
 use Rattle.library.proofs.zahrubel_give as f
 use Rattle.library.proofs.zahrubel_give.Statement as stated

@@ -37,10 +37,10 @@ use Rattle.call_step.proofs.step as step′
 use Rattle.call_step.proofs.step.Symbol as step-def
 use Rattle.call_step.proofs.step.Met as step-thm
 use Rattle.library_back.specs.Handed.{Numbered}
-use Rattle.library.proofs.Answering.{answer-value, called-value, numbers-value, Num}
 use Rattle.library_back.proofs.numbers_of as num
 use Rattle.library_back.proofs.numbers_of.Symbol as num-def
 use Rattle.library_back.proofs.numbers_of.Met as num-thm
+use Rattle.library.proofs.Answering.{answer-value, called-value, numbers-value, Num}
 use Rattle.library.proofs.zahrubel_step.Key as key
 use Rattle.library.proofs.zahrubel_step as f
 use Rattle.library.proofs.zahrubel_step.Statement as stated

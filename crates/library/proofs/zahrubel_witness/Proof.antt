@@ -8,9 +8,9 @@ use Rattle.lent_entries.proofs.Taken.{At}
 use Rattle.lent_entries.proofs.Walks.{stands}
 use Rattle.lent_entries.proofs.entry_at.Met as entry-at-thm
 use Rattle.lent_entries.proofs.entry_at.Symbol as entry-at-def
-use Rattle.library.proofs.Held.{Spanned, names}
 use Rattle.library_back.proofs.witness_part.Met as part-thm
 use Rattle.library_back.proofs.witness_part.Symbol as part-def
+use Rattle.library.proofs.Held.{Spanned, names}
 use Rattle.library.proofs.zahrubel_witness as f
 use Rattle.library.proofs.zahrubel_witness.Code as code
 use Rattle.library.proofs.zahrubel_witness.Key as key
