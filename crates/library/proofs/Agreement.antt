@@ -15,13 +15,15 @@ use Rattle.dimacs.specs.Reading.{read-text, judged-text}
 use Rattle.dimacs_frames.specs.Yields.{yields-into, yield-numbers}
 use Rattle.dimacs_frames.specs.declared.Cursor.{Cursor}
 use Rattle.call_demands.proofs.Agreement.{same-opening, Words, Agree, same-outcome, AgreeGiven, same-given, same-end}
-use Rattle.library.specs.Exported.{Numbered, carried-after, OpenExported, StepExported, Names, reader-of, read-after, GiveExported, EndExported}
-use Rattle.library.specs.Texts.{Told, judged-numbers, JudgeExported, NextExported}
-use Rattle.library.specs.declared.CnfCounts.{CnfCounts}
-use Rattle.library.specs.declared.Numbers.{Numbers}
-use Rattle.library.specs.declared.Part.{Part}
-use Rattle.library.specs.declared.Reading.{Reading}
-use Rattle.library.specs.declared.Counts.{Counts}
+use Rattle.library_back.specs.Handed.{Numbered, carried-after, reader-of, read-after}
+use Rattle.library_back.specs.Told.{Told, judged-numbers}
+use Rattle.library_back.specs.declared.CnfCounts.{CnfCounts}
+use Rattle.library_back.specs.declared.Numbers.{Numbers}
+use Rattle.library_back.specs.declared.Part.{Part}
+use Rattle.library_back.specs.declared.Reading.{Reading}
+use Rattle.library_back.specs.declared.Counts.{Counts}
+use Rattle.library.specs.Exported.{OpenExported, StepExported, Names, GiveExported, EndExported}
+use Rattle.library.specs.Texts.{JudgeExported, NextExported}
 
 same-told : (n : ℕ × ℕ) {r q : Numbers} → Told n r → Told n q → r ≡ q
 same-told n x y = ap₂ (λ c d. record { code = c; detail = d }) (x .0 ∙ sym (y .0)) (x .1 ∙ sym (y .1))

@@ -25,11 +25,13 @@ use Rattle.lent_entries.specs.declared.Entry.{Entry}
 use Rattle.lent.specs.declared.Carried.{Carried}
 use Rattle.call_give.specs.Giving.{met, give-refused}
 use Rattle.call_give.specs.declared.Given.{Given}
-use Rattle.library.specs.Exported.{GiveExported, reader-of, read-after}
-use Rattle.library.specs.Texts.{Told, FrameTold, NextSeries, last-call, first-call}
-use Rattle.library.specs.declared.Numbers.{Numbers}
-use Rattle.library.specs.declared.Reading.{Reading}
-use Rattle.library.specs.declared.Counts.{Counts}
+use Rattle.library_back.specs.Handed.{reader-of, read-after}
+use Rattle.library_back.specs.Told.{Told}
+use Rattle.library_back.specs.declared.Numbers.{Numbers}
+use Rattle.library_back.specs.declared.Reading.{Reading}
+use Rattle.library_back.specs.declared.Counts.{Counts}
+use Rattle.library.specs.Exported.{GiveExported}
+use Rattle.library.specs.Texts.{FrameTold, NextSeries, last-call, first-call}
 
 module _ {entries entries′ : List Entry} {pool pool′ : List ℤ} {carried carried′ : Carried} {reading reading′ : Reading} {frame frame′ : List ℤ}
     {part out out′ : List ℕ} {r : Numbers} {counts′ : Counts}

@@ -4,43 +4,20 @@ use mathlib.Core.List.{List, [], _∷_}
 use Prim.Native.Nat.{ℕ, _≤_, _<_}
 use lib.IntN.{ℤ}
 use lib.ListN.{length, take}
-use Rattle.dimacs.specs.Reading.{fault-numbers, read-text, judged-text}
-use Rattle.dimacs.specs.declared.TextAnswer.{TextAnswer}
-use Rattle.dimacs.specs.declared.TextAnswer.the-variants.{Sound, Faulty}
+use Rattle.dimacs.specs.Reading.{read-text, judged-text}
 use Rattle.dimacs_frames.specs.Yields.{yields-into, yield-numbers, cursor-after}
 use Rattle.dimacs_frames.specs.declared.Cursor.{Cursor}
-use Rattle.dimacs_frames.specs.declared.Yield.{Yield}
-use Rattle.library.specs.declared.Numbers.{Numbers}
-use Rattle.library.specs.declared.CnfCounts.{CnfCounts}
-use Rattle.library.specs.declared.CnfHanded.{CnfHanded}
-use Rattle.library.specs.declared.NextHanded.{NextHanded}
-
--- these are the two numbers
-abbrev pub Told : ℕ × ℕ → Numbers → Type 0
-Told n r = (r .code ≡ n .0) × (r .detail ≡ n .1)
+use Rattle.library_back.specs.Told.{Told, judged-numbers, cnf-after}
+use Rattle.library_back.specs.declared.Numbers.{Numbers}
+use Rattle.library_back.specs.declared.CnfCounts.{CnfCounts}
 
 -- ---- a text judged: 0 and 0, or the fault's numbers
-
-abbrev pub judged-numbers : TextAnswer → ℕ × ℕ
-judged-numbers (Sound vars clauses) = (0, 0)
-judged-numbers (Faulty f) = fault-numbers f
-
--- V and the number of clauses; a faulty text leaves every word
-abbrev pub cnf-after : TextAnswer → CnfCounts → CnfCounts
-cnf-after (Sound vars clauses) before = record { vars = vars; clauses = clauses }
-cnf-after (Faulty f) before = before
-
-abbrev pub CnfHanding : TextAnswer → CnfCounts → CnfHanded → Type 0
-CnfHanding answer before h = Told (judged-numbers answer) (h .numbers) × (h .cnf ≡ cnf-after answer before)
 
 pub record JudgeExported (text : List ℕ) (cnf : CnfCounts) (r : Numbers) (cnf′ : CnfCounts) : Type 0 where
   pub told : Told (judged-numbers (judged-text (read-text text))) r
   pub handed-back : cnf′ ≡ cnf-after (judged-text (read-text text)) cnf
 
 -- ---- the next frame
-
-abbrev pub NextHanding : Yield → Cursor → NextHanded → Type 0
-NextHanding y before h = Told (yield-numbers y) (h .numbers) × (h .cursor ≡ cursor-after y before)
 
 pub record NextExported (text : List ℕ) (c : Cursor) (frame : List ℤ) (r : Numbers) (c′ : Cursor) (frame′ : List ℤ) : Type 0 where
   pub told : Told (yield-numbers (yields-into text c frame .0)) r

@@ -35,16 +35,16 @@ use Rattle.lent_entries.proofs.Behind.{opens-ref, closes-ref, behind-of, sets-b
 use Rattle.lent_entries.proofs.Steps.{_&_, a-slice, copy-of, field-of, sets, lands-in, parts, fparts, frees}
 use Rattle.lent_entries.proofs.Walks.{typed, made-of, Value, struct-value, spelled, Params, keeps-slice, sets-ref, values, Passing, Walk-at, brought, doubles}
 use Rattle.lent_entries.proofs.Walks.{starts, ends, stands, asks}
-use Rattle.library.specs.Texts.{CnfHanding}
-use Rattle.library.specs.declared.CnfCounts.{CnfCounts}
-use Rattle.library.proofs.CnfCounts as TC
-use Rattle.library.proofs.CnfCounts.Laws as TC′
-use Rattle.library.proofs.CnfHanded as TH
-use Rattle.library.proofs.CnfHanded.Laws as TH′
+use Rattle.library_back.specs.Told.{CnfHanding}
+use Rattle.library_back.specs.declared.CnfCounts.{CnfCounts}
+use Rattle.library_back.proofs.CnfCounts as TC
+use Rattle.library_back.proofs.CnfCounts.Laws as TC′
+use Rattle.library_back.proofs.CnfHanded as TH
+use Rattle.library_back.proofs.CnfHanded.Laws as TH′
+use Rattle.library_back.proofs.judge_back as back
+use Rattle.library_back.proofs.judge_back.Symbol as back-def
+use Rattle.library_back.proofs.judge_back.Met as back-thm
 use Rattle.library.proofs.Answering.{numbers-value}
-use Rattle.library.proofs.judge_back as back
-use Rattle.library.proofs.judge_back.Symbol as back-def
-use Rattle.library.proofs.judge_back.Met as back-thm
 use Rattle.library.proofs.zahrubel_dimacs_judge.Key as key
 use Rattle.library.proofs.zahrubel_dimacs_judge as f
 use Rattle.library.proofs.zahrubel_dimacs_judge.Statement as stated
@@ -119,4 +119,4 @@ zahrubel-dimacs-judge-spec 𝓤 H 𝓜 𝓖 𝓡 =
     stands f.ended passed 𝓤 H 𝓜 𝓖 𝓡 (f.clauses 𝓤 H (𝓖 .A) (𝓜 .mem) (𝓡 .run)) code.env key.name code.function (code.unfolded 𝓤 H 𝓜 𝓡)
     (walk 𝓤 H (𝓖 .A) (givenOf 𝓤 H 𝓜 𝓖) (𝓜 .mem) (𝓡 .run) (tablesOf 𝓤 H 𝓜 (tables 𝓤 H 𝓜 𝓡 code.env))
     (cited 𝓤 H (Judge 𝓤 H (𝓖 .A) (𝓜 .mem) (𝓡 .run)) 𝓜 𝓡 code.env judge-def.name judge-def.routine code.calls-dimacs-judge·judge (judge-thm.met 𝓤 H 𝓜 𝓖 𝓡))
-    (cited 𝓤 H (Back 𝓤 H (𝓖 .A) (𝓜 .mem) (𝓡 .run)) 𝓜 𝓡 code.env back-def.name back-def.routine code.calls-library·judge-back (back-thm.met 𝓤 H 𝓜 𝓖 𝓡)))
+    (cited 𝓤 H (Back 𝓤 H (𝓖 .A) (𝓜 .mem) (𝓡 .run)) 𝓜 𝓡 code.env back-def.name back-def.routine code.calls-library-back·judge-back (back-thm.met 𝓤 H 𝓜 𝓖 𝓡)))

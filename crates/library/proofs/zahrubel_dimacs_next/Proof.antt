@@ -40,13 +40,13 @@ use Rattle.lent_entries.proofs.Behind.{opens-ref, closes-ref, behind-of, sets-b
 use Rattle.lent_entries.proofs.Steps.{_&_, a-slice, copy-of, field-of, sets, lands-in, lends, parts, fparts, notes, frees}
 use Rattle.lent_entries.proofs.Walks.{typed, made-of, Value, struct-value, spelled, Params, keeps-slice, gives-slice, sets-ref, values, Passing, Walk-at}
 use Rattle.lent_entries.proofs.Walks.{brought, doubles, starts, ends, stands, asks}
-use Rattle.library.specs.Texts.{NextHanding}
-use Rattle.library.proofs.NextHanded as TH
-use Rattle.library.proofs.NextHanded.Laws as TH′
+use Rattle.library_back.specs.Told.{NextHanding}
+use Rattle.library_back.proofs.NextHanded as TH
+use Rattle.library_back.proofs.NextHanded.Laws as TH′
+use Rattle.library_back.proofs.next_back as back
+use Rattle.library_back.proofs.next_back.Symbol as back-def
+use Rattle.library_back.proofs.next_back.Met as back-thm
 use Rattle.library.proofs.Answering.{numbers-value}
-use Rattle.library.proofs.next_back as back
-use Rattle.library.proofs.next_back.Symbol as back-def
-use Rattle.library.proofs.next_back.Met as back-thm
 use Rattle.library.proofs.zahrubel_dimacs_next.Key as key
 use Rattle.library.proofs.zahrubel_dimacs_next as f
 use Rattle.library.proofs.zahrubel_dimacs_next.Statement as stated
@@ -134,4 +134,4 @@ zahrubel-dimacs-next-spec 𝓤 H 𝓜 𝓖 𝓡 =
     stands f.ended passed 𝓤 H 𝓜 𝓖 𝓡 (f.clauses 𝓤 H (𝓖 .A) (𝓜 .mem) (𝓡 .run)) code.env key.name code.function (code.unfolded 𝓤 H 𝓜 𝓡)
     (walk 𝓤 H (𝓖 .A) (givenOf 𝓤 H 𝓜 𝓖) (𝓜 .mem) (𝓡 .run) (tablesOf 𝓤 H 𝓜 (tables 𝓤 H 𝓜 𝓡 code.env))
     (cited 𝓤 H (Next 𝓤 H (𝓖 .A) (𝓜 .mem) (𝓡 .run)) 𝓜 𝓡 code.env next-def.name next-def.routine code.calls-dimacs-frames·next (next-thm.met 𝓤 H 𝓜 𝓖 𝓡))
-    (cited 𝓤 H (Back 𝓤 H (𝓖 .A) (𝓜 .mem) (𝓡 .run)) 𝓜 𝓡 code.env back-def.name back-def.routine code.calls-library·next-back (back-thm.met 𝓤 H 𝓜 𝓖 𝓡)))
+    (cited 𝓤 H (Back 𝓤 H (𝓖 .A) (𝓜 .mem) (𝓡 .run)) 𝓜 𝓡 code.env back-def.name back-def.routine code.calls-library-back·next-back (back-thm.met 𝓤 H 𝓜 𝓖 𝓡)))

@@ -1,7 +1,7 @@
--- `library::clause_part` meets its contract.
+-- `library_back::clause_part` meets its contract.
 use borrow.Author.Needs.{needs}
-use Rattle.library.proofs.clause_part.Statement.{statement}
-use Rattle.library.proofs.clause_part.Tie as tie
+use Rattle.library_back.proofs.clause_part.Statement.{statement}
+use Rattle.library_back.proofs.clause_part.Tie as tie
 
 clause-span-requires : tie.Need-clause-span-requires
 clause-span-requires c κs = search needs

@@ -1,7 +1,7 @@
--- `library::reading_after` meets its contract.
+-- `library_back::reading_after` meets its contract.
 use borrow.Author.Needs.{needs}
-use Rattle.library.proofs.reading_after.Statement.{statement}
-use Rattle.library.proofs.reading_after.Tie as tie
+use Rattle.library_back.proofs.reading_after.Statement.{statement}
+use Rattle.library_back.proofs.reading_after.Tie as tie
 
 reading-of-requires : tie.Need-reading-of-requires
 reading-of-requires c κs = search needs

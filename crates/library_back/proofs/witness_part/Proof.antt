@@ -1,7 +1,7 @@
--- `library::witness_part` meets its contract.
+-- `library_back::witness_part` meets its contract.
 use borrow.Author.Needs.{needs}
-use Rattle.library.proofs.witness_part.Statement.{statement}
-use Rattle.library.proofs.witness_part.Tie as tie
+use Rattle.library_back.proofs.witness_part.Statement.{statement}
+use Rattle.library_back.proofs.witness_part.Tie as tie
 
 witness-span-requires : tie.Need-witness-span-requires
 witness-span-requires c κs = search needs

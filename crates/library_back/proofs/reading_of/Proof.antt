@@ -1,7 +1,7 @@
--- `library::reading_of` meets its contract.
+-- `library_back::reading_of` meets its contract.
 use borrow.Author.Needs.{needs}
-use Rattle.library.proofs.reading_of.Statement.{statement}
-use Rattle.library.proofs.reading_of.Tie as tie
+use Rattle.library_back.proofs.reading_of.Statement.{statement}
+use Rattle.library_back.proofs.reading_of.Tie as tie
 
 word-requires : tie.Need-word-requires
 word-requires c κs = search needs

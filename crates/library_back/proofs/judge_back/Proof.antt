@@ -1,8 +1,8 @@
--- `library::judge_back` meets its contract.
+-- `library_back::judge_back` meets its contract.
 use mathlib.Core.Path.{refl}
 use borrow.Author.Needs.{needs}
-use Rattle.library.proofs.judge_back.Statement.{statement}
-use Rattle.library.proofs.judge_back.Tie as tie
+use Rattle.library_back.proofs.judge_back.Statement.{statement}
+use Rattle.library_back.proofs.judge_back.Tie as tie
 
 enum-known-answer : tie.Need-enum-known-answer
 enum-known-answer c = search needs

@@ -1,7 +1,7 @@
--- `library::reader_of` meets its contract.
+-- `library_back::reader_of` meets its contract.
 use borrow.Author.Needs.{needs}
-use Rattle.library.proofs.reader_of.Statement.{statement}
-use Rattle.library.proofs.reader_of.Tie as tie
+use Rattle.library_back.proofs.reader_of.Statement.{statement}
+use Rattle.library_back.proofs.reader_of.Tie as tie
 
 size-requires : tie.Need-size-requires
 size-requires c κs = search needs
