@@ -55,13 +55,15 @@ below-three (suc (suc (suc n))) =
     let m = suc (suc (suc n)) in rw (ne-eqb m 0 (λ e. omega arith), ne-eqb m 1 (λ e. omega arith), ne-eqb m 2 (λ e. omega arith), le-ltb m 3 (omega arith))
 
 -- the scope lets the rows of the three places through, and no others
-three-places : {rows : List Row} {pool : List ℤ} → Readable rows pool → only (permits all-clauses) rows ≡ only (λ r. stands 0 r || (stands 1 r || stands 2 r)) rows
+three-places : {rows : List Row} {pool : List ℤ} → Readable rows pool
+    → only (permits all-clauses) rows ≡ only (λ r. stands 0 r || (stands 1 r || stands 2 r)) rows
 three-places {rows} t = only-same
     (all-more (λ r (h : 0 < id-of r). rw (below-three (place-of r), ne-eqb (id-of r) 0 (λ (z : id-of r ≡ 0). omega arith), and-true (ltb (place-of r) 3)))
     (all-indexed rows [] (t .positive)))
 
 -- where the stack lists the stacked clauses, they are named among its records
-pub allows-all : {scope : Scope} {rows : List Row} {pool : List ℤ} {ids : List ℕ} → scope ≡ all-clauses → Readable rows pool → Listed (clauses 2 pool rows) ids →
+pub allows-all : {scope : Scope} {rows : List Row} {pool : List ℤ} {ids : List ℕ} → scope ≡ all-clauses → Readable rows pool
+    → Listed (clauses 2 pool rows) ids →
     allowed-of scope pool rows ≡ among (clauses 0 pool rows ++ (clauses 1 pool rows ++ map (fetch (clauses 2 pool rows)) ids))
 unfolding allowed-of
 allows-all {scope} {rows} {pool} {ids} q t l =
@@ -69,8 +71,8 @@ allows-all {scope} {rows} {pool} {ids} q t l =
     rw q (fun-ext (λ i. ap (λ rs. among (map (held pool) rs) i) (three-places t)
     ∙ sym (merged (stands 0) (λ r. stands 1 r || stands 2 r) pool rows i (t .rising))
     ∙ ap (first (among (clauses 0 pool rows) i))
-      (sym (merged (stands 1) (stands 2) pool rows i (t .rising)) ∙ ap (first (among (clauses 1 pool rows) i)) (sym (listed-among l i))
-      ∙ sym (among-append (clauses 1 pool rows) records i))
+    (sym (merged (stands 1) (stands 2) pool rows i (t .rising)) ∙ ap (first (among (clauses 1 pool rows) i)) (sym (listed-among l i))
+    ∙ sym (among-append (clauses 1 pool rows) records i))
     ∙ sym (among-append (clauses 0 pool rows) (clauses 1 pool rows ++ records) i)))
 
 -- ---- DROP and WEAKEN: the irredundant clauses but one
