@@ -2,7 +2,8 @@
  *
  * The caller lends a table of clause entries, a pool of literal words and a model buffer, and carries a small record from call to call. Any
  * bits may stand in them: tables that are no state are refused with code 1. A refused call writes nothing; SAT and UNSAT never write the tables;
- * only an accepted SAT writes the model buffer. Frames come one by one, as words, or as lines of hexadecimal digits in parts of any bytes.
+ * only an accepted SAT writes the model buffer. Frames come one by one, as words, or as lines of hexadecimal digits in parts of any bytes. Rules may be
+ * kept as DIMACS text, whose clauses are handed out as frames.
  *
  * What a caller owes is what C always asks: each pointer is aligned, not null (also where its length is 0), and points to as many elements as
  * the length says; what a call may write overlaps nothing else that it is handed, and no other thread touches it meanwhile.
@@ -34,13 +35,15 @@
  * What a call costs. zahrubel_step and zahrubel_give first load what is lent, since it may have any bits: a pass over the held entries and the pool words that
  * they hold, a search for each record, and a sort, which is one pass where the entries lie by rising id. Accepted changes leave them so; else it takes up to
  * the square of their number. Then comes the frame's own work. zahrubel_give loads once for all lines of a part, so many frames are cheapest as lines.
- * The other calls do not look at what is held. On an Arm processor (Neoverse-V1), with clauses of 3 literals, a step that learns by one hint took 1.9 us with
- * 16 clauses held, 3.8 with 128, 17 with 1,023; loading was 15 of these 17, 70 where all are records, 1,400 by falling id; a line of a part of 1,000 took
- * 0.09 to 0.12. host/examples/cost.rs measures it on the processor at hand.
+ * The other calls do not look at what is held. zahrubel_dimacs_judge reads a text once; zahrubel_dimacs_next judges it so at its first call, and then reads
+ * each clause once. On an Arm processor (Neoverse-V1), with clauses of 3 literals, a step that learns by one hint took 1.9 us with 16 clauses held, 3.8 with
+ * 128, 17 with 1,023; loading was 15 of these 17, 70 where all are records, 1,400 by falling id; a line of a part of 1,000 took 0.09 to 0.12.
+ * host/examples/cost.rs measures it on the processor at hand.
  *
- * No call allocates, blocks or recurses. Stack: zahrubel_step takes 128 KB (127,664 bytes), zahrubel_give 100 KB, zahrubel_open 4.2 KB, the others below 200
- * bytes: measured on a painted stack, and the same by adding up the frames in the machine code, on an Arm processor of 64 bits. On x86-64 it may differ:
- * host/tests/stack.rs measures it on the processor at hand and holds every call to ZAHRUBEL_STACK_BYTES.
+ * No call allocates, blocks or recurses. Stack: zahrubel_step takes 158 KB (158,320 bytes), zahrubel_give 131 KB, zahrubel_dimacs_next 19 KB,
+ * zahrubel_dimacs_judge 18 KB, zahrubel_open 4.2 KB, the others below 200 bytes: measured on a painted stack, and the same by adding up the frames in the
+ * machine code, on an Arm processor of 64 bits. On x86-64 it may differ: host/tests/stack.rs measures it on the processor at hand and holds every call to
+ * ZAHRUBEL_STACK_BYTES.
  *
  * The archive: tools/native --lib library libzahrubel.a
  */
@@ -62,6 +65,8 @@ extern "C" {
 #define ZAHRUBEL_MODEL_WORDS 32
 /* A frame has 1 to this many words. */
 #define ZAHRUBEL_LONGEST_FRAME 4096
+/* The frame of a text's clause has at most this many words: ADD, the id and 256 literals. */
+#define ZAHRUBEL_LONGEST_ADD 258
 /* A line has at most this many digits, eight a word. */
 #define ZAHRUBEL_MOST_DIGITS 32768
 /* An answer to a line has code, detail and the end of the line; after an accepted SAT, eight bytes more for each true variable. */
@@ -98,7 +103,17 @@ enum zahrubel_code {
     ZAHRUBEL_FALSE_CLAUSE = 10,     /* the model falsifies an irredundant clause: the least such id */
     ZAHRUBEL_FALSE_ASSUMPTION = 11, /* the model falsifies it: its word index */
     ZAHRUBEL_NO_ENTRY = 12,         /* none is free: 0 */
-    ZAHRUBEL_NO_WORDS = 13          /* not enough literal words are free: 0 */
+    ZAHRUBEL_NO_WORDS = 13,         /* not enough literal words are free: 0 */
+    /* The faults of a text: the byte, from 0, where the first faulty word starts. */
+    ZAHRUBEL_NO_PROBLEM_LINE = 21,     /* the word found instead; the text's length where there is none */
+    ZAHRUBEL_SECOND_PROBLEM_LINE = 22, /* its p */
+    ZAHRUBEL_MALFORMED_WORD = 23,      /* any other; where the problem line is cut short the text's next word, or its length */
+    ZAHRUBEL_PAST_DECLARED = 24,       /* a literal past the declared count */
+    ZAHRUBEL_VARIABLE_TWICE = 25,      /* a variable twice in a clause: the second time */
+    ZAHRUBEL_LONG_CLAUSE = 26,         /* over 256 literals: the 257th */
+    ZAHRUBEL_VARS_OUT_OF_RANGE = 27,   /* the declared count is outside 1 to ZAHRUBEL_MOST_VARIABLES */
+    ZAHRUBEL_UNCLOSED_CLAUSE = 28,     /* the text's length */
+    ZAHRUBEL_WRONG_CLAUSE_COUNT = 29   /* the text's length */
 };
 
 /* The place of a clause. Any other number is no state. */
@@ -126,7 +141,7 @@ struct zahrubel_carried {
     uint32_t stack[ZAHRUBEL_MOST_ENTRIES];
 };
 
-/* One of the codes above, 0 for an acceptance and 1 to 13 for a refusal, and its detail. */
+/* One of the codes above, 0 for an acceptance and 1 to 13 for a refusal, 21 to 29 for a faulty text, and its detail. */
 struct zahrubel_answer {
     uint64_t code;
     uint64_t detail;
@@ -150,6 +165,18 @@ struct zahrubel_given {
 struct zahrubel_part {
     uint64_t start;
     uint64_t length;
+};
+
+/* What a text without fault has: V, and so many clauses. */
+struct zahrubel_cnf {
+    uint64_t vars;
+    uint64_t clauses;
+};
+
+/* How far the clauses of a text are handed out: behind the one with this id, which ends at this byte; all zero: none is yet. */
+struct zahrubel_cursor {
+    size_t at;
+    uint64_t id;
 };
 
 /* Opens for the variables 1 to `vars`. Of the tables only their sizes matter. Accepted, `carried` is the empty state, whatever the tables hold;
@@ -179,6 +206,17 @@ struct zahrubel_answer zahrubel_end(const struct zahrubel_reader *reader, uint8_
  * pool's end what there is of it. */
 struct zahrubel_part zahrubel_clause(const struct zahrubel_entry *entries, size_t entry_count, const int32_t *pool, size_t pool_words, size_t i);
 struct zahrubel_part zahrubel_witness(const struct zahrubel_entry *entries, size_t entry_count, const int32_t *pool, size_t pool_words, size_t i);
+
+/* Judges rules as DIMACS text, of any bytes. Code 0 and detail 0, and V and the number of clauses stand in `cnf`; or the code of the first fault, 21 to
+ * 29, with its byte, and `cnf` stays as it was. */
+struct zahrubel_answer zahrubel_dimacs_judge(const uint8_t *text, size_t text_bytes, struct zahrubel_cnf *cnf);
+
+/* Hands out the next clause of a text as a frame: ADD, the id, the literals; ids are 1, 2, 3 and so on in the text's order. Code 0 and the number of its
+ * words: it stands at the front of the frame buffer, words behind it stay, and the cursor has moved. Else neither is written: 0 and 0 where no clause is
+ * left; 1 and 0 where the buffer has fewer than ZAHRUBEL_LONGEST_ADD words; 21 to 29 and the byte where the text has a fault: the first call judges all of
+ * it, so a faulty text yields no frame; 4 and 2147483648 where no id is left. The text is the same from call to call: behind the cursor of another, or one
+ * that is made up, the clause that stands there is handed out, or none. */
+struct zahrubel_answer zahrubel_dimacs_next(const uint8_t *text, size_t text_bytes, struct zahrubel_cursor *cursor, int32_t *frame, size_t frame_words);
 
 #ifdef __cplusplus
 }

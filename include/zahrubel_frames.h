@@ -146,6 +146,19 @@ static inline const char *zahrubel_code_name(uint64_t code) {
         "no entry is free",
         "not enough literal words are free",
     };
+    static const char *const faults[] = {
+        "the problem line is missing",
+        "a second problem line",
+        "a malformed word",
+        "a literal past the declared count",
+        "a variable twice in a clause",
+        "a clause over 256 literals",
+        "a declared variable count outside 1 to 2048",
+        "an unclosed clause",
+        "a wrong clause count",
+    };
+    if (code >= ZAHRUBEL_NO_PROBLEM_LINE && code <= ZAHRUBEL_WRONG_CLAUSE_COUNT)
+        return faults[code - ZAHRUBEL_NO_PROBLEM_LINE];
     return code < sizeof names / sizeof names[0] ? names[code] : "no answer";
 }
 

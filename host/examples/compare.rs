@@ -1,44 +1,59 @@
-//! Makes the calls of seeded histories through the archive and compares each with the second
-//! implementation; tells what was tried, or the first difference.
+//! Makes the calls of seeded histories, or reads seeded texts, through the archive and compares
+//! each with the second implementation; tells what was tried, or the first difference.
 
 #[path = "../tests/common/mod.rs"]
 mod common;
+#[path = "../tests/texts/mod.rs"]
+mod texts;
 
 use common::Linked;
 use second::lent::run::{run, Tally};
 use second::progress::{asks_for_help, help, wrong_usage, Progress};
+use second::texts::run::run_seed;
+use second::texts::Histogram;
 use std::process::ExitCode;
 use std::time::Duration;
+use texts::Watched;
 
 const HELP: &str = "\
-usage: compare [HISTORIES]
+usage: compare [HISTORIES] | --texts [SEEDS]
 
 Makes the calls of so many seeded histories (20000) through the linked archive, on right and
 damaged tables, and compares each with the second implementation. Tells what was tried; stops at
 the first difference, tells it, and fails.
 
+  --texts [SEEDS]    judges DIMACS texts instead and hands out their frames: a text of every class,
+                     sound and damaged, for each of so many seeds (5000)
+
 Status: 0 no difference; 1 a difference; 2 wrong usage.";
 
 /// About how long a history of some 45 calls takes.
 const EACH: Duration = Duration::from_micros(2_000);
+/// About how long the texts of a seed take.
+const EACH_SEED: Duration = Duration::from_micros(8_000);
+
+/// So many of them compared: what was tried, or the first difference.
+type Compare = fn(u64) -> Result<String, String>;
 
 fn main() -> ExitCode {
     let arguments: Vec<String> = std::env::args().skip(1).collect();
     if asks_for_help(&arguments) {
         return help(HELP);
     }
-    let histories = match arguments.as_slice() {
-        [] => Ok(20_000),
-        [number] => number.parse(),
-        _ => "".parse::<u64>(),
+    let arguments: Vec<&str> = arguments.iter().map(String::as_str).collect();
+    let (compare, count): (Compare, _) = match arguments.as_slice() {
+        [] => (compare, Ok(20_000)),
+        ["--texts"] => (compare_texts, Ok(5_000)),
+        ["--texts", number] => (compare_texts, number.parse()),
+        [number] => (compare, number.parse()),
+        _ => (compare, "".parse()),
     };
-    let Ok(histories) = histories else {
+    let Ok(count) = count else {
         return wrong_usage(HELP);
     };
-    match compare(histories) {
-        Ok(tally) => {
-            print!("{tally}");
-            println!("{histories} histories, no difference");
+    match compare(count) {
+        Ok(told) => {
+            println!("{told}, no difference");
             ExitCode::SUCCESS
         }
         Err(difference) => {
@@ -48,8 +63,8 @@ fn main() -> ExitCode {
     }
 }
 
-/// What was tried, or the first difference.
-fn compare(histories: u64) -> Result<Tally, String> {
+/// Calls on lent tables.
+fn compare(histories: u64) -> Result<String, String> {
     let mut tally = Tally::default();
     let mut progress = Progress::begin("compare", histories, "histories", EACH);
     for seed in 0..histories {
@@ -57,5 +72,16 @@ fn compare(histories: u64) -> Result<Tally, String> {
             .map_err(|difference| format!("seed     {seed}\n{difference}"))?;
         progress.step();
     }
-    Ok(tally)
+    Ok(format!("{tally}{histories} histories"))
+}
+
+/// Texts.
+fn compare_texts(seeds: u64) -> Result<String, String> {
+    let mut tally = Histogram::default();
+    let mut progress = Progress::begin("compare", seeds, "seeds", EACH_SEED);
+    for seed in 0..seeds {
+        run_seed(&mut Watched, seed, &mut tally).map_err(|difference| difference.to_string())?;
+        progress.step();
+    }
+    Ok(format!("{tally}{} texts", tally.texts()))
 }

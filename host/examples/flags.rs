@@ -1,26 +1,20 @@
-//! A bureau that masks CPU flags for guests: its rules are clauses, a toy solver drops one of
-//! them and answers for host after host, and the checker says what a guest may see.
+//! A bureau that masks CPU flags for guests: its rules are clauses in `flags.cnf`, a toy solver
+//! drops one of them and answers for host after host, and the checker says what a guest may see.
 
 use std::error::Error;
-use zahrubel::{ClauseId, Frame, Literal, Session, Variable};
+use std::fs;
+use zahrubel::{ClauseId, Frame, Literal, Place, Session, Variable};
+
+/// The rules: each says which flag must not be shown without another.
+const RULES: &str = concat!(env!("CARGO_MANIFEST_DIR"), "/examples/flags.cnf");
 
 /// The flags, as variables 1 to 6.
 const NAMES: [&str; 6] = ["sse2", "xsave", "avx", "avx2", "avx512f", "fma"];
-const XSAVE: Variable = flag(2);
 const AVX: Variable = flag(3);
 const AVX2: Variable = flag(4);
 const AVX512F: Variable = flag(5);
-const FMA: Variable = flag(6);
 
-/// What a flag needs: the rule's id, the flag, and the flag without which it must not be shown.
-const RULES: [(ClauseId, Variable, Variable); 4] = [
-    (rule(1), AVX, XSAVE),
-    (rule(2), AVX2, AVX),
-    (rule(3), AVX512F, AVX2),
-    (rule(4), FMA, AVX),
-];
-
-/// The rule that the solver works without.
+/// The rule that the solver works without: avx512f needs avx2.
 const DROPPED: ClauseId = rule(3);
 
 /// Hosts, by the flags that they lack.
@@ -46,12 +40,10 @@ const fn rule(number: u32) -> ClauseId {
 }
 
 fn main() -> Result<(), Box<dyn Error>> {
-    let mut session = Session::open(NAMES.len() as u32, 16, 64)?;
-    for (id, flag, needed) in RULES {
-        session
-            .say(&Frame::add(id, &[-flag, needed.positive()])?)
-            .accepted()?;
-    }
+    let rules = fs::read(RULES).map_err(|error| format!("{RULES}: {error}"))?;
+    // Judged, and its clauses added, or refused with the byte where it has a fault.
+    let mut session =
+        Session::of_rules(&rules, 16, 64).map_err(|refused| format!("{RULES}: {refused}"))?;
     // Wherever avx2 is missing, hiding avx512f makes the rule true. No rule holds avx512f itself,
     // so no other clause needs a group.
     let weaken = Frame::weaken(DROPPED, &[-AVX512F]).frame()?;
@@ -64,7 +56,7 @@ fn main() -> Result<(), Box<dyn Error>> {
 
 /// SAT for a host: what it lacks is assumed false; the offered model is the solver's.
 fn show(session: &mut Session, host: &str, lacking: &[Variable]) -> Result<(), Box<dyn Error>> {
-    let offered = offer(lacking);
+    let offered = offer(session, lacking);
     let assumed: Vec<Literal> = lacking.iter().map(|&flag| -flag).collect();
     let mended = session.say(&Frame::sat(&assumed, &offered)?).accepted()?;
     println!("host that {host}");
@@ -79,13 +71,17 @@ fn all_flags() -> impl Iterator<Item = Variable> {
 }
 
 /// The toy solver: every flag that the host has, less those that break a rule it still knows.
-fn offer(lacking: &[Variable]) -> Vec<Variable> {
+fn offer(session: &Session, lacking: &[Variable]) -> Vec<Variable> {
     let mut shown: Vec<Variable> = all_flags().collect();
     shown.retain(|flag| !lacking.contains(flag));
-    let known = RULES.iter().filter(|(id, ..)| *id != DROPPED);
-    for &(_, flag, needed) in known {
-        if !shown.contains(&needed) {
-            shown.retain(|&other| other != flag);
+    let known = session
+        .held()
+        .filter(|rule| rule.place == Place::Irredundant);
+    for rule in known {
+        let holds =
+            |literal: &Literal| shown.contains(&literal.variable()) == literal.is_positive();
+        if !rule.clause.iter().any(holds) {
+            shown.retain(|&flag| !rule.clause.contains(&-flag));
         }
     }
     shown

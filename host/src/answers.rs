@@ -3,7 +3,7 @@
 use crate::Refused;
 use std::fmt;
 
-/// Code 0 is an acceptance, 1 to 13 are refusals.
+/// Code 0 is an acceptance, 1 to 13 are refusals, 21 to 29 the faults of a text.
 #[repr(C)]
 #[derive(Clone, Copy, Debug, PartialEq, Eq)]
 pub struct Answer {
@@ -28,11 +28,20 @@ pub enum Code {
     FalseAssumption = 11,
     NoEntry = 12,
     NoWords = 13,
+    NoProblemLine = 21,
+    SecondProblemLine = 22,
+    MalformedWord = 23,
+    PastDeclared = 24,
+    VariableTwice = 25,
+    LongClause = 26,
+    VarsOutOfRange = 27,
+    UnclosedClause = 28,
+    WrongClauseCount = 29,
 }
 
 impl Code {
     /// By their numbers.
-    pub const ALL: [Code; 14] = [
+    pub const ALL: [Code; 23] = [
         Code::Accepted,
         Code::NoState,
         Code::NoFrame,
@@ -47,12 +56,20 @@ impl Code {
         Code::FalseAssumption,
         Code::NoEntry,
         Code::NoWords,
+        Code::NoProblemLine,
+        Code::SecondProblemLine,
+        Code::MalformedWord,
+        Code::PastDeclared,
+        Code::VariableTwice,
+        Code::LongClause,
+        Code::VarsOutOfRange,
+        Code::UnclosedClause,
+        Code::WrongClauseCount,
     ];
 
     /// The code of a number; no answer has another than these.
     pub fn of(number: u64) -> Option<Code> {
-        let place = usize::try_from(number).ok()?;
-        Code::ALL.get(place).copied()
+        Code::ALL.into_iter().find(|&code| code as u64 == number)
     }
 
     /// In words, without what the detail adds; `zahrubel_code_name` of C says the same.
@@ -72,7 +89,21 @@ impl Code {
             Code::FalseAssumption => "the model falsifies an assumption",
             Code::NoEntry => "no entry is free",
             Code::NoWords => "not enough literal words are free",
+            Code::NoProblemLine => "the problem line is missing",
+            Code::SecondProblemLine => "a second problem line",
+            Code::MalformedWord => "a malformed word",
+            Code::PastDeclared => "a literal past the declared count",
+            Code::VariableTwice => "a variable twice in a clause",
+            Code::LongClause => "a clause over 256 literals",
+            Code::VarsOutOfRange => "a declared variable count outside 1 to 2048",
+            Code::UnclosedClause => "an unclosed clause",
+            Code::WrongClauseCount => "a wrong clause count",
         }
+    }
+
+    /// Whether it is a fault of a text; the detail is then a byte of it.
+    pub fn is_fault(self) -> bool {
+        self >= Code::NoProblemLine
     }
 }
 
@@ -124,6 +155,7 @@ impl fmt::Display for Answer {
             Code::BadGroup => write!(out, "{code} at word {detail}"),
             Code::FalseClause => write!(out, "the model falsifies clause {detail}"),
             Code::FalseAssumption => write!(out, "{code}, word {detail}"),
+            fault if fault.is_fault() => write!(out, "{fault}, byte {detail}"),
             _ => write!(out, "{code}"),
         }
     }

@@ -101,6 +101,14 @@ impl Frame {
         line.into_iter().map(char::from).collect()
     }
 
+    /// The ADD that a text yields, which is right.
+    pub(crate) fn of_clause(words: &[i32]) -> Frame {
+        Frame {
+            operation: Operation::Add,
+            words: words.to_vec(),
+        }
+    }
+
     fn of_id(operation: Operation, id: ClauseId) -> Frame {
         Frame {
             operation,

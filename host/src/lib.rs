@@ -22,6 +22,7 @@
 //! ```
 
 mod answers;
+pub mod dimacs;
 mod errors;
 mod frames;
 mod lines;

@@ -1,5 +1,6 @@
 //! The archive's functions, as `include/zahrubel.h` declares them.
 
+use crate::dimacs::{Cnf, Cursor};
 use crate::{Answer, Carried, Entry, Given, Reader};
 
 /// Where a part of a pool lies.
@@ -69,4 +70,14 @@ extern "C" {
         pool_words: usize,
         i: usize,
     ) -> Part;
+
+    pub fn zahrubel_dimacs_judge(text: *const u8, text_bytes: usize, cnf: *mut Cnf) -> Answer;
+
+    pub fn zahrubel_dimacs_next(
+        text: *const u8,
+        text_bytes: usize,
+        cursor: *mut Cursor,
+        frame: *mut i32,
+        frame_words: usize,
+    ) -> Answer;
 }

@@ -1,8 +1,9 @@
 //! Tables, what is carried, a model and a line, held together for a host that wants no more.
 
+use crate::dimacs;
 use crate::replies::write_line;
 use crate::{clause, end, give, open, step, witness};
-use crate::{Answer, Carried, ClauseId, Code, Entry, Literal, Operation, Reader};
+use crate::{Answer, Carried, ClauseId, Code, Entry, Frame, Literal, Operation, Reader};
 use crate::{Refused, Reply, Variable, IRREDUNDANT, LEARNED};
 use crate::{LONGEST_ANSWER, LONGEST_FRAME, SHORTEST_ANSWER};
 use crate::{MODEL_WORDS, MOST_ENTRIES, MOST_WORDS};
@@ -71,6 +72,20 @@ impl Session {
         };
         open(vars, &tables.entries, &tables.pool, &mut tables.carried).accepted()?;
         Ok(Session::over(tables))
+    }
+
+    /// Opens for the variables of a text and says its clauses: rule after rule, ids from 1 on. A
+    /// fault of the text is handed back, or the first refusal of a rule.
+    pub fn of_rules(text: &[u8], entries: usize, words: usize) -> Result<Session, Refused> {
+        let vars = dimacs::judge(text)?.vars as u32; // at most 2,048
+        let mut session = Session::open(vars, entries, words)?;
+        // No table has room for more, so the one behind the last is refused at the latest.
+        let rules = dimacs::frames(text).take(MOST_ENTRIES + 1);
+        let rules: Vec<Frame> = rules.collect::<Result<_, _>>()?;
+        for reply in session.say_all(&rules) {
+            reply.answer.accepted()?;
+        }
+        Ok(session)
     }
 
     /// Goes on from tables that were kept elsewhere. They may have any bits: what is no state is

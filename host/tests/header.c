@@ -1,4 +1,4 @@
-/* The header as a C host uses it: its layout, and document 01's worked example, by frames and by lines. */
+/* The header as a C host uses it: its layout, document 01's worked example, by frames and by lines, and rules as DIMACS text. */
 #include <assert.h>
 #include <stdio.h>
 #include <string.h>
@@ -14,6 +14,10 @@ _Static_assert(sizeof(struct zahrubel_reader) == 24, "three words of 64 bits");
 _Static_assert(offsetof(struct zahrubel_reader, spoilt) == 16, "the third");
 _Static_assert(sizeof(struct zahrubel_given) == 16, "two words of 64 bits");
 _Static_assert(sizeof(struct zahrubel_part) == 16, "a start and a length");
+_Static_assert(sizeof(struct zahrubel_cnf) == 16, "two words of 64 bits");
+_Static_assert(offsetof(struct zahrubel_cnf, clauses) == 8, "the second");
+_Static_assert(sizeof(struct zahrubel_cursor) == 16, "a size and a word of 64 bits");
+_Static_assert(offsetof(struct zahrubel_cursor, id) == 8, "the second");
 
 static struct zahrubel_entry entries[ZAHRUBEL_MOST_ENTRIES];
 static int32_t pool[ZAHRUBEL_MOST_WORDS];
@@ -82,6 +86,29 @@ static void by_lines(void) {
     end();
 }
 
+/* A text judged and, if it is sound, said clause by clause to tables that are opened for its V. */
+static void by_text(const char *text) {
+    const uint8_t *bytes = (const uint8_t *)text;
+    struct zahrubel_cnf cnf;
+    struct zahrubel_answer answer = zahrubel_dimacs_judge(bytes, strlen(text), &cnf);
+    if (answer.code != ZAHRUBEL_ACCEPTED) {
+        printf("fault %d, byte %d\n", (int)answer.code, (int)answer.detail);
+        return;
+    }
+    printf("%d variables, %d clauses\n", (int)cnf.vars, (int)cnf.clauses);
+    zahrubel_open((uint32_t)cnf.vars, entries, ZAHRUBEL_MOST_ENTRIES, pool, ZAHRUBEL_MOST_WORDS, &carried);
+    struct zahrubel_cursor cursor = {0, 0};
+    int32_t clause[ZAHRUBEL_LONGEST_ADD];
+    for (;;) {
+        answer = zahrubel_dimacs_next(bytes, strlen(text), &cursor, clause, ZAHRUBEL_LONGEST_ADD);
+        if (answer.code != ZAHRUBEL_ACCEPTED || answer.detail == 0)
+            break;
+        printf("%d words to byte %d: ", (int)answer.detail, (int)cursor.at);
+        say(clause, (size_t)answer.detail);
+    }
+    printf("%d %d, last id %d\n", (int)answer.code, (int)answer.detail, (int)cursor.id);
+}
+
 int main(void) {
     open_all();
     SAY(1, 1, 1, 2);
@@ -92,5 +119,7 @@ int main(void) {
     SAY(7, 1);
     SAY(1, 2, -1);
     by_lines();
+    by_text("c rules\np cnf 3 3\n1 -2 0\n0 -3 0");
+    by_text("p cnf 3 1\n1 -2 4 0\n");
     return 0;
 }

@@ -6,7 +6,7 @@ use c::{compiled, compiled_text, is_there, said, C, CPP};
 use zahrubel::{Code, Operation};
 
 #[test]
-fn c_answers_the_worked_example() {
+fn c_answers_the_worked_example_and_reads_rules() {
     let said = said(&compiled(C, "header.c", "header"), Vec::new());
     let lines: Vec<&str> = said.lines().collect();
     let by_frames = ["0 0", "0 0", "0 0", "0 1", "1", "5 1", "0 0", "0 0"];
@@ -22,7 +22,15 @@ fn c_answers_the_worked_example() {
         "0000000000000000",
         "0000000200000000",
     ];
-    assert_eq!(lines, [&by_frames[..], &by_lines].concat());
+    let by_text = [
+        "3 variables, 3 clauses",
+        "4 words to byte 24: 0 0",
+        "2 words to byte 26: 0 0",
+        "3 words to byte 31: 0 0",
+        "0 0, last id 3",
+        "fault 24, byte 15",
+    ];
+    assert_eq!(lines, [&by_frames[..], &by_lines, &by_text].concat());
 }
 
 /// The example in the header's first comment, as somebody would copy it.

@@ -1,6 +1,7 @@
 //! The layout that the archive, the header and this crate must agree on.
 
 use std::mem::{align_of, offset_of, size_of};
+use zahrubel::dimacs::{Cnf, Cursor};
 use zahrubel::{Answer, Carried, Entry, Given, Reader};
 
 #[test]
@@ -61,4 +62,16 @@ fn what_is_given_is_two_words_of_64_bits() {
         (offset_of!(Given, taken), offset_of!(Given, written)),
         (0, 8)
     );
+}
+
+#[test]
+fn what_a_text_has_is_two_words_of_64_bits() {
+    assert_eq!((size_of::<Cnf>(), align_of::<Cnf>()), (16, 8));
+    assert_eq!((offset_of!(Cnf, vars), offset_of!(Cnf, clauses)), (0, 8));
+}
+
+#[test]
+fn a_cursor_is_a_size_and_a_word_of_64_bits() {
+    assert_eq!((size_of::<Cursor>(), align_of::<Cursor>()), (16, 8));
+    assert_eq!((offset_of!(Cursor, at), offset_of!(Cursor, id)), (0, 8));
 }

@@ -9,7 +9,7 @@
 
 #include "zahrubel.h"
 
-enum { STACK_BYTES = 1 << 20, PAINT = 0xa5, MOST_INPUT = 1 << 26 };
+enum { STACK_BYTES = 1 << 20, PAINT = 0xa5, MOST_INPUT = 1 << 26, MOST_TEXT = 1 << 14, CLAUSES = 3 };
 
 static struct zahrubel_entry entries[ZAHRUBEL_MOST_ENTRIES];
 static int32_t pool[ZAHRUBEL_MOST_WORDS];
@@ -20,6 +20,7 @@ static int32_t frame[ZAHRUBEL_LONGEST_FRAME];
 static uint8_t out[4 * ZAHRUBEL_LONGEST_ANSWER];
 static uint8_t *input;
 static size_t input_bytes;
+static char text[MOST_TEXT];
 
 /* Where the stack stood when the last call was made. */
 static const uint8_t *before;
@@ -77,6 +78,32 @@ static void give_all(void) {
     }
 }
 
+/* Clauses of 256 literals over all variables. */
+static void write_text(void) {
+    size_t at = (size_t)sprintf(text, "c long clauses\np cnf %d %d\n", ZAHRUBEL_MOST_VARIABLES, CLAUSES);
+    for (int clause = 0; clause < CLAUSES; clause++) {
+        for (int variable = 1; variable < ZAHRUBEL_MOST_VARIABLES; variable += 8)
+            at += (size_t)sprintf(text + at, "-%d ", variable + clause);
+        at += (size_t)sprintf(text + at, "0\n");
+    }
+    assert(at < MOST_TEXT);
+}
+
+static void judge_text(void) {
+    struct zahrubel_cnf cnf;
+    struct zahrubel_answer answer = zahrubel_dimacs_judge((const uint8_t *)text, strlen(text), &cnf);
+    assert(answer.code == ZAHRUBEL_ACCEPTED && cnf.clauses == CLAUSES);
+}
+
+static void read_text(void) {
+    struct zahrubel_cursor cursor = {0, 0};
+    struct zahrubel_answer answer;
+    do {
+        answer = zahrubel_dimacs_next((const uint8_t *)text, strlen(text), &cursor, frame, ZAHRUBEL_LONGEST_ADD);
+    } while (answer.detail > 0);
+    assert(answer.code == ZAHRUBEL_ACCEPTED && cursor.id == CLAUSES);
+}
+
 struct trial {
     const char *name;
     void (*run)(void);
@@ -110,9 +137,11 @@ int main(void) {
     input = malloc(MOST_INPUT);
     assert(input);
     input_bytes = fread(input, 1, MOST_INPUT, stdin);
+    write_text();
     /* The first call also finds memcpy and memset, which a program does once. */
     const struct trial trials[] = {{"the first call", open_all}, {"open", open_all}, {"step", step_all}, {"open", open_all},
-                                   {"give", give_all},           {"end", end_all},   {"reading", read_held}};
+                                   {"give", give_all},           {"end", end_all},   {"reading", read_held},
+                                   {"judging", judge_text},      {"frames", read_text}};
     for (size_t i = 0; i < sizeof trials / sizeof trials[0]; i++)
         try(&trials[i]);
     return came_to == 0;

@@ -94,8 +94,8 @@ fn frames_that_the_page_does_not_show_are_told_alike() {
     }
 }
 
-/// Every code, with and without a detail where it says another thing; and two that are none.
-const ANSWERS: [(u64, u64, &str); 19] = [
+/// Every code, with and without a detail where it says another thing; and some that are none.
+const ANSWERS: [(u64, u64, &str); 30] = [
     (0, 0, "accepted"),
     (0, 1, "accepted: 1 variable changed"),
     (0, 7, "accepted: 7 variables changed"),
@@ -117,7 +117,30 @@ const ANSWERS: [(u64, u64, &str); 19] = [
     ),
     (12, 0, "refused 12: no entry is free"),
     (13, 0, "refused 13: not enough literal words are free"),
+    (21, 0, "refused 21: the problem line is missing, byte 0"),
+    (22, 41, "refused 22: a second problem line, byte 41"),
+    (23, 9, "refused 23: a malformed word, byte 9"),
+    (
+        24,
+        15,
+        "refused 24: a literal past the declared count, byte 15",
+    ),
+    (25, 15, "refused 25: a variable twice in a clause, byte 15"),
+    (
+        26,
+        1_300,
+        "refused 26: a clause over 256 literals, byte 1300",
+    ),
+    (
+        27,
+        6,
+        "refused 27: a declared variable count outside 1 to 2048, byte 6",
+    ),
+    (28, 99, "refused 28: an unclosed clause, byte 99"),
+    (29, 99, "refused 29: a wrong clause count, byte 99"),
     (14, 5, "code 14, detail 5: no answer"),
+    (20, 5, "code 20, detail 5: no answer"),
+    (30, 0, "code 30, detail 0: no answer"),
     (
         u64::MAX,
         0,
@@ -132,7 +155,7 @@ fn every_answer_is_told_in_words() {
         assert_eq!(answer.to_string(), words);
         assert_eq!(
             answer.meaning().map(|code| code as u64),
-            (code < 14).then_some(code)
+            (!words.ends_with("no answer")).then_some(code)
         );
         match answer.accepted() {
             Ok(changed) => assert_eq!((code, changed), (0, detail)),
@@ -140,7 +163,10 @@ fn every_answer_is_told_in_words() {
         }
     }
     let all: Vec<u64> = Code::ALL.iter().map(|&code| code as u64).collect();
-    assert!(all.into_iter().eq(0..14));
+    assert!(all.into_iter().eq((0..14).chain(21..30)));
+    assert!(Code::ALL
+        .iter()
+        .all(|&code| code.is_fault() == (code as u64 > 20)));
 }
 
 #[test]

@@ -53,9 +53,12 @@ fn cases(seed: u64, count: usize) -> (String, String) {
     (input, expected)
 }
 
+/// Of every code, and of the numbers beside them that are none.
 fn names() -> String {
-    let names = Code::ALL.iter().map(|code| format!("{code}\n"));
-    names.collect::<String>() + "no answer\n"
+    let name = |number| Code::of(number).map_or("no answer", Code::name);
+    (0..31)
+        .map(|number| format!("{}\n", name(number)))
+        .collect()
 }
 
 #[test]

@@ -5,7 +5,7 @@ use crate::words::{tell_answer, tell_line};
 use std::fmt;
 use std::io::{self, Read, Write};
 use std::process::{Child, Command, ExitStatus, Stdio};
-use std::thread;
+use std::thread::{self, JoinHandle};
 use std::time::{Duration, Instant};
 
 /// No program that is started here may run longer.
@@ -59,6 +59,8 @@ impl fmt::Display for Difference {
 #[derive(Debug)]
 pub struct Run {
     pub output: Vec<u8>,
+    /// What it wrote to standard error, if anyone asked for it.
+    pub errors: Vec<u8>,
     pub status: ExitStatus,
 }
 
@@ -74,6 +76,21 @@ pub fn run_program_within(
     input: Vec<u8>,
     most: usize,
 ) -> io::Result<Run> {
+    run_child(limit, command, input, most, Stdio::inherit())
+}
+
+/// Feeds the input to a program and reads standard error, too; of each at most `most` bytes.
+pub fn run_program_whole(command: &[String], input: Vec<u8>, most: usize) -> io::Result<Run> {
+    run_child(TIME_LIMIT, command, input, most, Stdio::piped())
+}
+
+fn run_child(
+    limit: Duration,
+    command: &[String],
+    input: Vec<u8>,
+    most: usize,
+    errors: Stdio,
+) -> io::Result<Run> {
     let (program, arguments) = command
         .split_first()
         .ok_or_else(|| io::Error::new(io::ErrorKind::InvalidInput, "no program"))?;
@@ -81,6 +98,7 @@ pub fn run_program_within(
         .args(arguments)
         .stdin(Stdio::piped())
         .stdout(Stdio::piped())
+        .stderr(errors)
         .spawn()?;
     let (Some(mut stdin), Some(stdout)) = (child.stdin.take(), child.stdout.take()) else {
         return Err(io::Error::other("the program has no pipes"));
@@ -88,20 +106,32 @@ pub fn run_program_within(
     // A pipe has a thread of its own, so that neither side waits for the other's. A program that ends early closes its pipe;
     // what it has answered is compared all the same.
     let writer = thread::spawn(move || drop(stdin.write_all(&input)));
-    let reader = thread::spawn(move || {
-        let mut output = Vec::new();
-        let read = stdout.take(most as u64).read_to_end(&mut output);
-        read.map(|_| output)
-    });
+    let output = read_aside(stdout, most);
+    let errors = child.stderr.take().map(|errors| read_aside(errors, most));
     // Of a program that was ended here a child may still hold the pipes, so nobody waits for their threads.
     let status = ended_within(limit, &mut child)?;
-    let failed = |_| io::Error::other("a pipe's thread failed");
-    writer.join().map_err(failed)?;
-    let output = reader.join().map_err(failed)?;
+    writer.join().map_err(thread_failed)?;
     Ok(Run {
         status,
-        output: output?,
+        output: output.join().map_err(thread_failed)??,
+        errors: match errors {
+            Some(errors) => errors.join().map_err(thread_failed)??,
+            None => Vec::new(),
+        },
     })
+}
+
+/// Reads a pipe in a thread of its own.
+fn read_aside(pipe: impl Read + Send + 'static, most: usize) -> JoinHandle<io::Result<Vec<u8>>> {
+    thread::spawn(move || {
+        let mut read = Vec::new();
+        pipe.take(most as u64).read_to_end(&mut read)?;
+        Ok(read)
+    })
+}
+
+fn thread_failed<T>(_: T) -> io::Error {
+    io::Error::other("a pipe's thread failed")
 }
 
 /// How a program ended, or that it was ended here.

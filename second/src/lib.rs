@@ -1,9 +1,10 @@
-//! The independent second implementation of the checker of document 01.
+//! The independent second implementation of the checker of document 01 and of document 02's requests.
 
 pub mod answer;
 pub mod assignment;
 pub mod checker;
 pub mod compare;
+pub mod dimacs;
 pub mod frame;
 pub mod frames;
 pub mod histogram;
@@ -16,6 +17,7 @@ pub mod random;
 pub mod search;
 pub mod state;
 pub mod terms;
+pub mod texts;
 pub mod traces;
 pub mod values;
 pub mod words;

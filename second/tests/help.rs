@@ -5,11 +5,14 @@ use std::process::{Command, Output, Stdio};
 use std::thread;
 use std::time::{Duration, Instant};
 
-const PROGRAMS: [(&str, &str); 6] = [
+const PROGRAMS: [(&str, &str); 9] = [
     ("bench", env!("CARGO_BIN_EXE_bench")),
     ("differ", env!("CARGO_BIN_EXE_differ")),
+    ("differ-texts", env!("CARGO_BIN_EXE_differ-texts")),
     ("judge", env!("CARGO_BIN_EXE_judge")),
+    ("read-text", env!("CARGO_BIN_EXE_read-text")),
     ("second", env!("CARGO_BIN_EXE_second")),
+    ("texts", env!("CARGO_BIN_EXE_texts")),
     ("traces", env!("CARGO_BIN_EXE_traces")),
     ("workload", env!("CARGO_BIN_EXE_workload")),
 ];

@@ -1,5 +1,6 @@
 //! The program's answers as it writes them.
 
+use crate::codes;
 use crate::digits::{read_words, DIGITS};
 use crate::literals::VARIABLES;
 use crate::stream::Line;
@@ -7,6 +8,7 @@ use crate::stream::Line;
 /// Code, detail, and after an accepted SAT at most all variables; one byte more tells that a line is longer.
 pub const LONGEST: usize = (2 + VARIABLES as usize) * DIGITS + 1;
 
+/// A frame is answered with a code below this one.
 const CODES: u32 = 14;
 
 #[derive(Clone, Debug, PartialEq, Eq)]
@@ -43,25 +45,9 @@ impl Answer {
         self.code == 0
     }
 
-    /// What a code says where nothing more is known.
+    /// What its code says by itself.
     pub fn meaning(&self) -> &'static str {
-        match self.code {
-            0 => "accepted",
-            1 => "the tables are no state",
-            2 => "the line is no frame",
-            3 => "a literal or variable is out of range or repeated",
-            4 => "the id is not new, or its clause is not in that place",
-            5 => "not clean",
-            6 => "the witness has no literal of the clause",
-            7 => "a bad hint",
-            8 => "the hints are used up",
-            9 => "a group is missing or wrong",
-            10 => "the model falsifies an irredundant clause",
-            11 => "the model falsifies an assumption",
-            12 => "no entry is free",
-            13 => "not enough literal words are free",
-            _ => "no code",
-        }
+        codes::meaning(self.code)
     }
 }
 

@@ -1,6 +1,8 @@
 //! The command line: `tell PROGRAM.. -- check ..` or `tell PROGRAM.. -- explain ..`.
 
 use crate::check::Check;
+use crate::codes;
+use crate::digits::read_words;
 use crate::explain::Explain;
 use crate::say_wrong;
 use std::ffi::{OsStr, OsString};
@@ -18,6 +20,8 @@ const LIMIT: Duration = Duration::from_secs(600);
 
 pub enum Asked {
     Help(&'static str),
+    /// A code, told.
+    Code(String),
     /// Only whether these can be read.
     Look(Vec<Trace>),
     Run(Task),
@@ -88,6 +92,7 @@ struct Said {
     state: bool,
     answers: Option<PathBuf>,
     limit: Option<Duration>,
+    code: Option<String>,
     traces: Vec<Trace>,
 }
 
@@ -113,7 +118,7 @@ fn check(
     program: Vec<OsString>,
     arguments: impl Iterator<Item = OsString>,
 ) -> Result<Asked, String> {
-    let said = said(arguments, "--answers")?;
+    let said = said(arguments, &["--answers"])?;
     if said.help {
         return Ok(Asked::Help(CHECK_HELP));
     }
@@ -137,9 +142,15 @@ fn explain(
     program: Vec<OsString>,
     arguments: impl Iterator<Item = OsString>,
 ) -> Result<Asked, String> {
-    let said = said(arguments, "--state")?;
+    let said = said(arguments, &["--state", "--code"])?;
     if said.help {
         return Ok(Asked::Help(EXPLAIN_HELP));
+    }
+    if let Some(told) = said.code {
+        let alone = said.traces.is_empty() && !said.state && said.limit.is_none();
+        return alone
+            .then_some(Asked::Code(told))
+            .ok_or("--code goes alone".to_string());
     }
     let [trace] = said.traces.as_slice() else {
         return Err("one trace is to be named".to_string());
@@ -161,16 +172,20 @@ fn common(program: Vec<OsString>, limit: Option<Duration>) -> Common {
     }
 }
 
-/// Options, of which one is the task's own, and traces; behind `--` all are traces.
-fn said(arguments: impl Iterator<Item = OsString>, own: &str) -> Result<Said, String> {
+/// Options, of which some are the task's own, and traces; behind `--` all are traces.
+fn said(arguments: impl Iterator<Item = OsString>, own: &[&str]) -> Result<Said, String> {
     let mut said = Said::default();
     let mut arguments = arguments;
     while let Some(word) = arguments.next() {
+        let is_own = |option: &str| own.contains(&option);
         match word.to_str() {
             Some("--help" | "-h") => said.help = true,
             Some("--limit") => said.limit = Some(seconds(arguments.next())?),
-            Some("--answers") if own == "--answers" => said.answers = Some(file(arguments.next())?),
-            Some("--state") if own == "--state" => said.state = true,
+            Some(option @ "--answers") if is_own(option) => {
+                said.answers = Some(file(arguments.next())?)
+            }
+            Some(option @ "--state") if is_own(option) => said.state = true,
+            Some(option @ "--code") if is_own(option) => said.code = Some(code(arguments.next())?),
             Some("--") => {
                 let behind = arguments.by_ref().map(|word| Trace::named(&word));
                 said.traces.extend(behind);
@@ -199,4 +214,26 @@ fn file(word: Option<OsString>) -> Result<PathBuf, String> {
         Some(word) if word != "-" => Ok(PathBuf::from(word)),
         _ => Err("--answers needs a file".to_string()),
     }
+}
+
+/// A code as people say it, or the digits of an answer, in which the number beside it may follow.
+fn code(word: Option<OsString>) -> Result<String, String> {
+    let word = word.unwrap_or_default();
+    let word = word.to_str().unwrap_or_default();
+    let (number, beside) = digits(word)
+        .or_else(|| Some((word.parse().ok()?, None)))
+        .ok_or("--code needs a number such as 25, or an answer's digits such as 00000019")?;
+    codes::told(number, beside).ok_or_else(|| {
+        format!(
+            "no answer has code {number}; there are 0 to 13, and 21 to 29 for a text's faults. \
+             Digits of an answer are read where they are whole: 00000019 is 25"
+        )
+    })
+}
+
+fn digits(word: &str) -> Option<(u32, Option<u32>)> {
+    let mut words = Vec::new();
+    read_words(word.as_bytes(), &mut words)?;
+    let code = *words.first()? as u32;
+    Some((code, words.get(1).map(|&beside| beside as u32)))
 }

@@ -5,11 +5,12 @@
 //! program accepted, so that a clause or record that an answer names can be spelt out.
 //!
 //! Called by the launcher as `tell PROGRAM.. -- check ..`. Without PROGRAM it only looks whether the
-//! arguments are right and the traces are there.
+//! arguments are right and the traces are there. What a code means is told without it, too.
 
 mod answer;
 mod arguments;
 mod check;
+mod codes;
 mod digits;
 mod explain;
 mod frame;
@@ -37,7 +38,8 @@ const COULD_NOT: u8 = 2;
 
 fn main() -> ExitCode {
     let status = match arguments::read(std::env::args_os().skip(1)) {
-        Ok(Asked::Help(text)) => help(text),
+        Ok(Asked::Help(text)) => print(text),
+        Ok(Asked::Code(told)) => print(&told),
         Ok(Asked::Look(traces)) => arguments::look(&traces),
         Ok(Asked::Run(task)) => run(&task),
         Err(wrong) => {
@@ -56,7 +58,7 @@ fn run(task: &Task) -> u8 {
     worst.status()
 }
 
-fn help(text: &str) -> u8 {
+fn print(text: &str) -> u8 {
     match io::stdout().write_all(text.as_bytes()) {
         Ok(()) => 0,
         Err(error) => {

@@ -3,12 +3,12 @@
 mod common;
 
 use common::{
-    always, command, ended, of_the_repository, shell, tell, tell_over, writing, Room, ACCEPTED,
+    always, command, ended, of_the_repository, run, shell, tell, tell_over, writing, Room, ACCEPTED,
 };
 use std::fs;
 use std::io::{BufRead, BufReader, Write};
 use std::path::Path;
-use std::process::Stdio;
+use std::process::{Command, Stdio};
 use std::time::SystemTime;
 
 /// Every operation gives every code that it can.
@@ -205,20 +205,24 @@ fn newest(folder: &Path) -> SystemTime {
     newest
 }
 
-/// The proved program itself, where it is built. The gate, which has built it before, asks for it.
+/// The launcher, where this program is built and newer than its sources. The gate, which has built it before, asks for it.
+fn launcher(program: &str) -> Option<String> {
+    let built = fs::metadata(of_the_repository("target/bin").join(program));
+    let built = built.and_then(|about| about.modified());
+    if built.is_ok_and(|built| built > newest(&of_the_repository("crates"))) {
+        return Some(of_the_repository("zahrubel").display().to_string());
+    }
+    let needed = std::env::var_os("TELL_NEEDS_PROGRAM").is_some();
+    assert!(!needed, "{program} is not built, or older than crates/");
+    None
+}
+
 #[test]
 fn the_proved_program_has_the_same_words() {
-    let built = fs::metadata(of_the_repository("target/bin/zahrubel"));
-    let built = built.and_then(|about| about.modified());
-    if !built.is_ok_and(|built| built > newest(&of_the_repository("crates"))) {
-        let needed = std::env::var_os("TELL_NEEDS_PROGRAM").is_some();
-        assert!(
-            !needed,
-            "the proved program is not built, or older than crates/"
-        );
+    let Some(launcher) = launcher("zahrubel") else {
         return;
-    }
-    let program = [of_the_repository("zahrubel").display().to_string()];
+    };
+    let program = [launcher];
     let (trace, _) = every_code();
     let ran = tell(&program, &["check", &trace]);
     assert_eq!((ran.status, ran.err.as_str()), (Some(1), ""));
@@ -228,4 +232,21 @@ fn the_proved_program_has_the_same_words() {
         told += &tell_over(trace.as_bytes(), &program, &["explain", "-"]).out;
     }
     assert_eq!(told, FORMAT);
+}
+
+/// The text in docs/FORMAT.md becomes the frames of the block behind it.
+#[test]
+fn the_proved_reader_writes_the_frames_of_the_page() {
+    let Some(launcher) = launcher("zahrubel_dimacs") else {
+        return;
+    };
+    let page = fs::read_to_string(of_the_repository("docs/FORMAT.md")).expect("a page");
+    let (before, text) = page.split_once("```cnf\n").expect("a text");
+    let (text, _) = text.split_once("```").expect("a closed block");
+    let mut command = Command::new(launcher);
+    command.arg("dimacs");
+    let ran = run(command, text.as_bytes());
+    assert_eq!((ran.status, ran.err.as_str()), (Some(0), ""));
+    let behind = before.matches("```trace\n").count();
+    assert_eq!(ran.out, blocks()[behind].0);
 }

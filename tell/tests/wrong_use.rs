@@ -42,6 +42,21 @@ const WRONG: &[(&[&str], &str)] = &[
         &["explain", "--answers", "c", "a.hex"],
         "unknown argument --answers",
     ),
+    (&["explain", "--code"], "--code needs a number"),
+    (&["explain", "--code", ""], "--code needs a number"),
+    (&["explain", "--code", "1d"], "--code needs a number"),
+    (&["explain", "--code", "-1"], "--code needs a number"),
+    (&["explain", "--code", "14"], "no answer has code 14"),
+    (&["explain", "--code", "20"], "no answer has code 20"),
+    (&["explain", "--code", "30"], "no answer has code 30"),
+    (&["explain", "--code", "00000014"], "no answer has code 20"),
+    (
+        &["explain", "--code", "4294967317"],
+        "--code needs a number",
+    ),
+    (&["explain", "--code", "5", "a.hex"], "--code goes alone"),
+    (&["explain", "--state", "--code", "5"], "--code goes alone"),
+    (&["check", "--code", "5"], "unknown argument --code"),
     (&[], "usage: tell"),
     (&["wrong"], "usage: tell"),
 ];
@@ -151,6 +166,7 @@ fn standard_output_that_fails_is_said() {
         &["explain", &trace],
         &["explain", "--state", &trace],
         &["check", "--help"],
+        &["explain", "--code", "5"],
     ] {
         let ran = into_full(&command(&accepting(), arguments));
         assert_eq!(ran.status, Some(2), "{arguments:?}: {ran:?}");

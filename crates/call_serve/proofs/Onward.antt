@@ -10,7 +10,7 @@ use Rattle.rules.specs.Terms.{State}
 use Rattle.line_read.specs.Machine.{Line, Session}
 use Rattle.line_read.specs.Parts.{closes, line-after, state-after, some-alters, largest-reply}
 use Rattle.line_read.specs.Lent.{LinesFed}
-use Rattle.line_read.proofs.Slices.{slice-join}
+use Rattle.text.proofs.Slices.{slice-join}
 use Rattle.line_read.proofs.Parts.{run-by-lines, closes-append, line-append, state-append, alters-append, taken-le, taken-least}
 
 -- the bytes made l′ of the line l, s′ of the state s, and a line of them was an accepted change or not

@@ -11,14 +11,14 @@ use lib.ListN.{length, getD, set, take, replicate, length-set, length-replicate}
 use lib.Seq.{take-all}
 use borrow.Author.Tests.{ltb-true, leb-true, leb-false, lt-ltb, le-leb, eqb-true, eqb-false}
 use Rattle.rules.specs.Lists.{any-passes}
-use Rattle.rules.proofs.Lists.{by-cases, true-false, or-false, and-left, and-right, and-both, or-right}
+use Rattle.rules.proofs.Lists.{by-cases, true-false, or-false, and-left, and-right, and-both, or-right, any-last}
 use Rattle.table_slices.proofs.Slices.{taken-on}
 use Rattle.table.specs.Facts.{All, none, both, Pairs, alone}
 use Rattle.table.specs.Spelled.{Row, row-at, start-of, size, Clear}
 use Rattle.table.proofs.Facts.{all-more}
 use Rattle.lent.specs.State.{every-two, clear}
 use Rattle.lent.specs.Marks.{between, PartMarked, Takes}
-use Rattle.lent.proofs.Tests.{two-test, pairs-last, pairs-behind, any-last, fails-any, set-mark}
+use Rattle.lent.proofs.Tests.{two-test, pairs-last, pairs-behind, fails-any, set-mark}
 use Rattle.lent.proofs.Judged.{clear-test, clears-fact}
 
 -- ---- a part's words

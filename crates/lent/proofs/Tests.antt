@@ -74,11 +74,6 @@ module _ {A : Type 0} where
   pairs-behind xs i d h r = let e = split-at xs i d h in pairs-before (take i xs) (getD xs i d) (drop (suc i) xs) (rw e at r)
 
   module _ (p : A → Bool) where
-    pub any-last : (xs : List A) (y : A) → any-passes p (xs ++ y ∷ []) ≡ (any-passes p xs || p y)
-    unfolding any-passes
-    any-last [] y = by-cases (p y) (λ e. rw e) (λ e. rw e)
-    any-last (x ∷ xs) y = let r = any-last xs y in by-cases (p x) (λ e. rw e) (λ e. rw (e, r))
-
     pub any-fails : (xs : List A) → any-passes p xs ≡ false → All (λ x. p x ≡ false) xs
     unfolding any-passes
     any-fails [] h = none

@@ -11,7 +11,7 @@ use lib.Seq.{take-all}
 use borrow.Author.Tests.{ltb-true, ltb-false, eqb-true, eqb-false, eq-eqb, ne-eqb}
 use Rattle.rules.specs.Lists.{any-passes, only}
 use Rattle.rules.specs.Terms.{has}
-use Rattle.rules.proofs.Lists.{by-cases, true-false}
+use Rattle.rules.proofs.Lists.{by-cases, true-false, any-last}
 use Rattle.table_slices.proofs.Slices.{taken-on}
 use Rattle.table.specs.Facts.{All, none, alone}
 use Rattle.table.specs.Spelled.{Row, row-at, id-of, place-of, stands, clauses, held, Rising, Located}
@@ -19,7 +19,7 @@ use Rattle.table.specs.declared.Found.the-variants.{At}
 use Rattle.table.proofs.Facts.{all-index, all-more, pairs-index}
 use Rattle.table.proofs.Finding.{has-at}
 use Rattle.lent.specs.State.{lists}
-use Rattle.lent.proofs.Tests.{all-last, pairs-last, pairs-behind, any-last, any-fails, fails-any, set-mark}
+use Rattle.lent.proofs.Tests.{all-last, pairs-last, pairs-behind, any-fails, fails-any, set-mark}
 use Rattle.lent.proofs.Listing.{Once, lists-each, lists-once, lists-many, lists-all}
 
 -- rows by rising id: their ids are the same where they are

@@ -1,5 +1,5 @@
 -- Any two outcomes that the promises of the archive's calls allow agree: in the numbers, and in what the public calls' own theorems say (demands).
-use mathlib.Core.Path.{_≡_, sym, ap, ap₂, _∙_}
+use mathlib.Core.Path.{_≡_, sym, ap, ap₂, subst, _∙_}
 use mathlib.Core.List.{List}
 use Prim.Native.Nat.{ℕ, _-_, min}
 use lib.IntN.{ℤ}
@@ -11,15 +11,25 @@ use Rattle.lent.specs.declared.Carried.{Carried}
 use Rattle.lent.specs.declared.Called.{Called}
 use Rattle.line_read.specs.Machine.{Line}
 use Rattle.call_give.specs.declared.Ended.{Ended}
+use Rattle.dimacs.specs.Reading.{read-text, judged-text}
+use Rattle.dimacs_frames.specs.Yields.{yields-into, yield-numbers}
+use Rattle.dimacs_frames.specs.declared.Cursor.{Cursor}
 use Rattle.call_demands.proofs.Agreement.{same-opening, Words, Agree, same-outcome, AgreeGiven, same-given, same-end}
-use Rattle.library.specs.Exported.{Numbered, carried-after, OpenExported, StepExported, Names, reader-of, read-after, GiveExported, EndExported}
-use Rattle.library.specs.declared.Numbers.{Numbers}
-use Rattle.library.specs.declared.Part.{Part}
-use Rattle.library.specs.declared.Reading.{Reading}
-use Rattle.library.specs.declared.Counts.{Counts}
+use Rattle.library_back.specs.Handed.{Numbered, carried-after, reader-of, read-after}
+use Rattle.library_back.specs.Told.{Told, judged-numbers}
+use Rattle.library_back.specs.declared.CnfCounts.{CnfCounts}
+use Rattle.library_back.specs.declared.Numbers.{Numbers}
+use Rattle.library_back.specs.declared.Part.{Part}
+use Rattle.library_back.specs.declared.Reading.{Reading}
+use Rattle.library_back.specs.declared.Counts.{Counts}
+use Rattle.library.specs.Exported.{OpenExported, StepExported, Names, GiveExported, EndExported}
+use Rattle.library.specs.Texts.{JudgeExported, NextExported}
+
+same-told : (n : ℕ × ℕ) {r q : Numbers} → Told n r → Told n q → r ≡ q
+same-told n x y = ap₂ (λ c d. record { code = c; detail = d }) (x .0 ∙ sym (y .0)) (x .1 ∙ sym (y .1))
 
 same-numbers : {a b : Answer} {r q : Numbers} → Numbered a r → Numbered b q → a ≡ b → r ≡ q
-same-numbers x y e = ap₂ (λ c d. record { code = c; detail = d }) (x .0 ∙ ap (λ z. numbers z .0) e ∙ sym (y .0)) (x .1 ∙ ap (λ z. numbers z .1) e ∙ sym (y .1))
+same-numbers {a} {b} {r} {q} x y e = same-told (numbers b) (subst (λ (z : Answer). Numbered z r) e x) y
 
 pub opens-agree : {vars : ℕ} {entries : List Entry} {pool : List ℤ} {carried : Carried} {r q : Numbers} {carried₁ carried₂ : Carried} →
     OpenExported vars entries pool carried r carried₁ → OpenExported vars entries pool carried q carried₂ → (r ≡ q) × (carried₁ ≡ carried₂)
@@ -69,3 +79,12 @@ pub parts-agree : (pool : List ℤ) (from many : ℕ) (words : List ℤ) (r q : 
 parts-agree pool from many words r q a b =
     let s = a .0 .starts ∙ sym (b .0 .starts) in
     ap₂ (λ x y. record { start = x; length = y }) s (a .0 .long ∙ ap (λ x. min many (length pool - x)) s ∙ sym (b .0 .long))
+
+pub judges-agree : {text : List ℕ} {cnf : CnfCounts} {r q : Numbers} {cnf₁ cnf₂ : CnfCounts} → JudgeExported text cnf r cnf₁ → JudgeExported text cnf q cnf₂ →
+    (r ≡ q) × (cnf₁ ≡ cnf₂)
+judges-agree {text} a b = (same-told (judged-numbers (judged-text (read-text text))) (a .told) (b .told), a .handed-back ∙ sym (b .handed-back))
+
+pub nexts-agree : {text : List ℕ} {c : Cursor} {frame : List ℤ} {r q : Numbers} {c₁ c₂ : Cursor} {frame₁ frame₂ : List ℤ} →
+    NextExported text c frame r c₁ frame₁ → NextExported text c frame q c₂ frame₂ → (r ≡ q) × (c₁ ≡ c₂) × (frame₁ ≡ frame₂)
+nexts-agree {text} {c} {frame} a b =
+    (same-told (yield-numbers (yields-into text c frame .0)) (a .told) (b .told), a .moved ∙ sym (b .moved), a .handed-out ∙ sym (b .handed-out))

@@ -18,12 +18,12 @@ use Rattle.lent.proofs.Called.Laws as TS′
 use Rattle.line_read.proofs.Reader as TD
 use Rattle.line_read.proofs.Reader.Laws as TD′
 use Rattle.lent_entries.proofs.Walks.{Value, struct-value}
-use Rattle.library.proofs.Numbers as TN
-use Rattle.library.proofs.Numbers.Laws as TN′
-use Rattle.library.proofs.Reading as TX
-use Rattle.library.proofs.Reading.Laws as TX′
-use Rattle.library.proofs.numbers_of as num
-use Rattle.library.proofs.reader_of as read
+use Rattle.library_back.proofs.Numbers as TN
+use Rattle.library_back.proofs.Numbers.Laws as TN′
+use Rattle.library_back.proofs.Reading as TX
+use Rattle.library_back.proofs.Reading.Laws as TX′
+use Rattle.library_back.proofs.numbers_of as num
+use Rattle.library_back.proofs.reader_of as read
 
 abbrev pub answer-value : Value TA.the-row
 answer-value = record {

@@ -34,10 +34,10 @@ use Rattle.lent_entries.proofs.Taken.{At, takes-out}
 use Rattle.lent_entries.proofs.Values.{E, entry-value}
 use Rattle.lent_entries.proofs.Walks.{typed, made-of, uint-value, Value, struct-value, Passing, Walk-at, brought, doubles, starts, ends, asks}
 use Rattle.lent_entries.proofs.entry_at.Symbol.{name as #entries·entry-at}
+use Rattle.library_back.proofs.Part as TP
+use Rattle.library_back.proofs.Part.Laws as TP′
+use Rattle.library_back.proofs.clause_part as inner
 use Rattle.library.specs.Exported.{Names}
-use Rattle.library.proofs.Part as TP
-use Rattle.library.proofs.Part.Laws as TP′
-use Rattle.library.proofs.clause_part as inner
 use Rattle.library.proofs.zahrubel_clause as outer
 
 abbrev part-value : Value TP.the-row

@@ -1,2 +1,3 @@
 -- What the archive's functions come to.
 pub mod Exported
+pub mod Texts

@@ -1,57 +1,16 @@
 // The archive for C and Rust: the public calls with pointers and lengths, an answer as its two numbers.
-ghost use mathlib.Core.Path.{_≡_};
 ghost use Prim.Native.Nat.{_+_};
-ghost use mathlib.Core.Bool.{cond};
-ghost use Rattle.lent_entries.specs.Lent.{Spans, clause-at, entry-at, witness-at};
-ghost use Rattle.library.specs.Exported.{EndHanding, EndExported, GiveExported, PartHanding, Names, Numbered, OpenExported, StepExported, carried-after};
-ghost use Rattle.library.specs.Exported.{read-after, reader-of, reading-of};
-use call_give::Ended;
-use call_give::Given;
-use lent::Called;
+ghost use Rattle.lent_entries.specs.Lent.{clause-at, entry-at, witness-at};
+ghost use Rattle.library.specs.Exported.{OpenExported, StepExported, Names, GiveExported, EndExported};
+ghost use Rattle.library.specs.Texts.{JudgeExported, NextExported};
+use dimacs_frames::Cursor;
 use lent::Carried;
 use lent_entries::Entry;
-use lent_entries::Span;
-use line_read::Reader;
-use rules::Answer;
-
-// "Each answer is a code and a detail." Two words of 64 bits go back in registers on every processor.
-#[repr(C)]
-pub struct Numbers {
-    pub code: u64,
-    pub detail: u64,
-}
-
-fn wide(x: u32) -> u64
-    ensures { λ r. ⌜ r ≡ x ⌝ }
-{
-    x as u64
-}
-
-fn word(x: usize) -> u64
-    ensures { λ r. ⌜ r ≡ x ⌝ }
-{
-    x as u64
-}
-
-fn numbers_of(answer: Answer) -> Numbers
-    ensures { λ r. ⌜ Numbered answer r ⌝ }
-{
-    Numbers {
-        code: wide(rules_codes::code(answer)),
-        detail: word(rules_codes::detail(answer)),
-    }
-}
-
-// What is carried after an opening: what it hands out; where it is refused, what was there before.
-fn after_opening(opened: Called, before: Carried) -> Carried
-    ensures { λ r. ⌜ r ≡ carried-after (opened .answer) (opened .carried) before ⌝ }
-{
-    let answer = opened.answer;
-    match answer {
-        Answer::Accepted(_) => opened.carried,
-        Answer::Refused(_) => before,
-    }
-}
+use library_back::CnfCounts;
+use library_back::Counts;
+use library_back::Numbers;
+use library_back::Part;
+use library_back::Reading;
 
 // An opening over the lent tables, of which only the sizes matter. What is carried is written when it is accepted.
 #[no_mangle]
@@ -64,8 +23,8 @@ pub extern "C" fn zahrubel_open(
     ensures { λ r. ⌜ OpenExported vars (now (entries .entry)) (now (pool .entry)) (now (carried .entry)) r (now (carried .exit)) ⌝ }
 {
     let opened = call_step::open(vars, entries, pool);
-    *carried = after_opening(opened, *carried);
-    numbers_of(opened.answer)
+    *carried = library_back::after_opening(opened, *carried);
+    library_back::numbers_of(opened.answer)
 }
 
 // One frame over the lent tables, with what is carried behind a reference: it is read, and written back as the call hands it back.
@@ -83,38 +42,10 @@ pub extern "C" fn zahrubel_step(
 {
     let stepped = call_step::step(entries, pool, *carried, frame, model);
     *carried = stepped.carried;
-    numbers_of(stepped.answer)
+    library_back::numbers_of(stepped.answer)
 }
 
 // ---- the reading of a held clause
-
-// A part of the pool: `length` words from `start` on.
-#[repr(C)]
-pub struct Part {
-    pub start: u64,
-    pub length: u64,
-}
-
-fn part_of(s: Span) -> Part
-    ensures { λ r. ⌜ (r .start ≡ s .start) × (r .length ≡ s .length) ⌝ }
-{
-    Part {
-        start: word(s.start),
-        length: word(s.length),
-    }
-}
-
-fn clause_part(words: usize, e: Entry) -> Part
-    ensures { λ r. ⌜ Spans words (e .start) (e .length) (r .start) (r .length) ⌝ }
-{
-    part_of(lent_entries::clause_span(words, e))
-}
-
-fn witness_part(words: usize, e: Entry) -> Part
-    ensures { λ r. ⌜ Spans words (e .start + e .length) (e .witness) (r .start) (r .length) ⌝ }
-{
-    part_of(lent_entries::witness_span(words, e))
-}
 
 // Where in the pool the literals lie of the clause that entry i holds.
 #[no_mangle]
@@ -122,7 +53,7 @@ pub extern "C" fn zahrubel_clause(entries: &[Entry], pool: &[i32], i: usize) -> 
     ensures { λ r. ⌜ Names (now (pool .entry)) (entry-at (now (entries .entry)) i .start) (entry-at (now (entries .entry)) i .length)
         (clause-at (now (entries .entry)) (now (pool .entry)) i) r ⌝ }
 {
-    clause_part(pool.len(), lent_entries::entry_at(entries, i))
+    library_back::clause_part(pool.len(), lent_entries::entry_at(entries, i))
 }
 
 // Those of its witness.
@@ -131,94 +62,10 @@ pub extern "C" fn zahrubel_witness(entries: &[Entry], pool: &[i32], i: usize) ->
     ensures { λ r. ⌜ Names (now (pool .entry)) (entry-at (now (entries .entry)) i .start + entry-at (now (entries .entry)) i .length)
         (entry-at (now (entries .entry)) i .witness) (witness-at (now (entries .entry)) (now (pool .entry)) i) r ⌝ }
 {
-    witness_part(pool.len(), lent_entries::entry_at(entries, i))
+    library_back::witness_part(pool.len(), lent_entries::entry_at(entries, i))
 }
 
 // ---- parts of the input
-
-// What is read of the line that is not closed yet: spoilt where the last word is not 0.
-#[repr(C)]
-pub struct Reading {
-    pub digits: u64,
-    pub word: u64,
-    pub spoilt: u64,
-}
-
-// How many bytes of the part were taken, and how many were written to the out buffer.
-#[repr(C)]
-pub struct Counts {
-    pub taken: u64,
-    pub written: u64,
-}
-
-fn size(x: u64) -> usize
-    ensures { λ r. ⌜ r ≡ x ⌝ }
-{
-    x as usize
-}
-
-fn bit(b: bool) -> u64
-    ensures { λ r. ⌜ r ≡ cond b 1 0 ⌝ }
-{
-    if b { 1 } else { 0 }
-}
-
-fn reader_of(x: Reading) -> Reader
-    ensures { λ r. ⌜ r ≡ reader-of x ⌝ }
-{
-    Reader {
-        digits: size(x.digits),
-        word: x.word,
-        spoilt: x.spoilt != 0,
-    }
-}
-
-fn reading_of(r: Reader) -> Reading
-    ensures { λ x. ⌜ x ≡ reading-of r ⌝ }
-{
-    Reading {
-        digits: word(r.digits),
-        word: r.word,
-        spoilt: bit(r.spoilt),
-    }
-}
-
-// What is read after a part: what the call hands back; where it is refused, what was there before, word for word.
-fn reading_after(answer: Answer, reader: Reader, lent: Reading) -> Reading
-    ensures { λ r. ⌜ r ≡ read-after answer reader lent ⌝ }
-{
-    let read = reading_of(reader);
-    match answer {
-        Answer::Accepted(_) => read,
-        Answer::Refused(_) => lent,
-    }
-}
-
-// What a part came to, as it goes back beside what is carried.
-struct PartHanded {
-    pub numbers: Numbers,
-    pub reading: Reading,
-    pub counts: Counts,
-}
-
-fn hand_back(
-    answer: Answer,
-    reader: Reader,
-    taken: usize,
-    written: usize,
-    before: Reading,
-) -> PartHanded
-    ensures { λ r. ⌜ PartHanding answer reader taken written before r ⌝ }
-{
-    PartHanded {
-        numbers: numbers_of(answer),
-        reading: reading_after(answer, reader, before),
-        counts: Counts {
-            taken: word(taken),
-            written: word(written),
-        },
-    }
-}
 
 // A part of the input over the lent tables, with what is carried and read behind references: both are written back as the call hands them back.
 #[no_mangle]
@@ -241,12 +88,12 @@ pub extern "C" fn zahrubel_give(
         entries,
         pool,
         *carried,
-        reader_of(*reader),
+        library_back::reader_of(*reader),
         frame,
         part,
         out,
     );
-    let back = hand_back(
+    let back = library_back::hand_back(
         given.answer,
         given.reader,
         given.taken,
@@ -259,28 +106,38 @@ pub extern "C" fn zahrubel_give(
     back.numbers
 }
 
-// What the end of input came to, as it goes back.
-struct EndHanded {
-    pub numbers: Numbers,
-    pub written: u64,
-}
-
-fn end_back(ended: Ended) -> EndHanded
-    ensures { λ r. ⌜ EndHanding ended r ⌝ }
-{
-    let answer = ended.answer;
-    EndHanded {
-        numbers: numbers_of(answer),
-        written: word(ended.written),
-    }
-}
-
 // The end of input: a line that is not closed is refused 2.
 #[no_mangle]
 pub extern "C" fn zahrubel_end(reader: &Reading, out: &mut [u8], written: &mut u64) -> Numbers
     ensures { λ r. ⌜ EndExported (now (reader .entry)) (now (out .entry)) r (now (out .exit)) (now (written .exit)) ⌝ }
 {
-    let back = end_back(call_give::end(reader_of(*reader), out));
+    let back = library_back::end_back(call_give::end(library_back::reader_of(*reader), out));
     *written = back.written;
+    back.numbers
+}
+
+// ---- rules as DIMACS text
+
+// Judges a text of any bytes. V and the number of its clauses are written where it has no fault.
+#[no_mangle]
+pub extern "C" fn zahrubel_dimacs_judge(text: &[u8], cnf: &mut CnfCounts) -> Numbers
+    ensures { λ r. ⌜ JudgeExported (now (text .entry)) (now (cnf .entry)) r (now (cnf .exit)) ⌝ }
+{
+    let back = library_back::judge_back(dimacs_judge::judge(text), *cnf);
+    *cnf = back.cnf;
+    back.numbers
+}
+
+// The next clause of a text as a frame, with the cursor behind a reference: it is written back as the call hands it back.
+#[no_mangle]
+pub extern "C" fn zahrubel_dimacs_next(
+    text: &[u8],
+    cursor: &mut Cursor,
+    frame: &mut [i32],
+) -> Numbers
+    ensures { λ r. ⌜ NextExported (now (text .entry)) (now (cursor .entry)) (now (frame .entry)) r (now (cursor .exit)) (now (frame .exit)) ⌝ }
+{
+    let back = library_back::next_back(dimacs_frames::next(text, *cursor, frame), *cursor);
+    *cursor = back.cursor;
     back.numbers
 }

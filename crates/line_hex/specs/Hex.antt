@@ -35,6 +35,16 @@ signed w = cond (ltb w 2147483648) (pos w) (negsuc (4294967295 - w))
 
 -- ---- writing
 
+-- a number that 32 bits hold
+abbrev pub is-word : ℤ → Bool
+is-word (pos n) = ltb n 2147483648
+is-word (negsuc n) = ltb n 2147483648
+
+-- the 32 bits of a word as a number: the opposite of `signed`
+abbrev pub unsigned : ℤ → ℕ
+unsigned (pos n) = n
+unsigned (negsuc n) = 4294967295 - n
+
 -- the byte of a digit
 unfoldable pub glyph : ℕ → ℕ
 glyph d = cond (ltb d 10) (d + 48) (d + 87)

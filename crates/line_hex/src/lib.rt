@@ -2,7 +2,7 @@
 ghost use mathlib.Core.Path.{_≡_};
 ghost use Prim.Native.Nat.{_+_, _≤_, _<_};
 ghost use lib.ListN.{length};
-ghost use Rattle.line_hex.specs.Hex.{digit, value-at, signed, Values};
+ghost use Rattle.line_hex.specs.Hex.{digit, value-at, signed, unsigned, Values};
 
 // What a byte counts as: a digit its value, any other more than any word.
 pub fn value(b: usize) -> u64
@@ -74,4 +74,14 @@ pub fn signed_of(w: u64) -> i32
     }
     let m = 4294967295 - w;
     -1 - (m as i32)
+}
+
+// The opposite.
+pub fn word_of(x: i32) -> usize
+    ensures { λ r. ⌜ r ≡ unsigned x ⌝ }
+{
+    if x < 0 {
+        return 4294967295 - ((-1 - x) as usize);
+    }
+    x as usize
 }

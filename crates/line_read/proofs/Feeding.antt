@@ -15,7 +15,7 @@ use Rattle.line_read.specs.Machine.{line-of, push, frame, Session, sessi
 use Rattle.line_read.specs.Parts.{closes, state-after, line-alters, some-alters, largest-reply, taken-of}
 use Rattle.line_read.specs.Lent.{Took, LineClosed, LinesFed}
 use Rattle.line_read.specs.declared.Reader.{Reader}
-use Rattle.line_read.proofs.Slices.{slice-snoc, slice-join, slice-drop, drop-further}
+use Rattle.text.proofs.Slices.{slice-snoc, slice-join, slice-drop, drop-further}
 use Rattle.line_read.proofs.Reading.{fresh-read}
 use Rattle.line_read.proofs.Program.{run-append, run-snoc}
 use Rattle.line_read.proofs.Parts.{run-by-lines, run-unclosed, closes-append, closes-none, alters-append, taken-unclosed, taken-one, taken-none}

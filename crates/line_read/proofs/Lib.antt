@@ -1,5 +1,4 @@
 -- Reading: the machine over a line. Program: its run is the program, wherever the input is cut. Example: document 01's.
-pub mod Slices
 pub mod Reading
 pub mod Program
 pub mod Parts

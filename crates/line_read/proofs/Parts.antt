@@ -18,7 +18,7 @@ use Rattle.line_hex.proofs.Digits.{end-beyond}
 use Rattle.line_read.specs.Lines.{line-outcome, reply}
 use Rattle.line_read.specs.Machine.{Line, fresh, push, reads, frame, Session, move, session-after}
 use Rattle.line_read.specs.Parts.{closes, line-after, state-after, replied, line-alters, some-alters, largest-reply, taken-of}
-use Rattle.line_read.specs.Lent.{goes-on}
+use Rattle.text.specs.Places.{goes-on}
 
 abbrev Lines : Type 0
 Lines = List (Option (List ℤ))

@@ -19,7 +19,7 @@ use Rattle.line_hex.proofs.Digits.{Digits, value-below}
 use Rattle.line_read.specs.Lines.{words-of, frame-of, ending}
 use Rattle.line_read.specs.Machine.{Line, fresh, line-of, spoil, roll, grow, push, reads, frame, end-reply}
 use Rattle.line_read.specs.declared.Reader.{Reader}
-use Rattle.line_read.proofs.Slices.{slice-snoc, slice-join}
+use Rattle.text.proofs.Slices.{slice-snoc, slice-join}
 
 pub reads-append : (l : Line) (xs ys : List ℕ) → reads l (xs ++ ys) ≡ reads (reads l xs) ys
 unfolding reads

@@ -22,6 +22,10 @@ pub numbered-length : (a : Answer) → length (numbered a) ≡ 16
 unfolding numbered
 numbered-length a = omega (arith, length-append (hex 8 (numbers a .0)) (hex 8 (numbers a .1)), hex-length 8 (numbers a .0), hex-length 8 (numbers a .1))
 
+-- the place behind code and detail
+pub numbered-end : {o : List ℕ} {at : ℕ} (x : Answer) {o′ : List ℕ} {a : ℕ} → Wrote o at (numbered x) o′ a → a ≡ at + 16
+numbered-end x w = omega (arith, w .place, numbered-length x)
+
 pub spelled-length : (vs : List ℕ) → length (in-hex vs) ≡ 8 * length vs
 unfolding in-hex
 spelled-length [] = refl

@@ -13,8 +13,9 @@ use Rattle.rules.proofs.Lists.{all-nil, all-cons, all-append}
 use Rattle.line_hex.specs.Hex.{beyond, value-at, signed, digit, is-digit}
 use Rattle.line_hex.proofs.Digits.{value-digits}
 use Rattle.line_read.specs.Machine.{Line, grow, spoil, push, reads}
-use Rattle.line_read.specs.Lent.{goes-on, Took, Unclosed}
-use Rattle.line_read.proofs.Slices.{slice-snoc, slice-join}
+use Rattle.line_read.specs.Lent.{Took}
+use Rattle.text.specs.Places.{goes-on, Unclosed}
+use Rattle.text.proofs.Slices.{slice-join}
 use Rattle.line_read.proofs.Reading.{reached, reads-append, digits-all, word-read}
 use Rattle.line_read.proofs.Parts.{digits-go-on}
 
@@ -77,19 +78,6 @@ took-none part from l h m =
     record { low = omega arith; high = h; most = m; unclosed = rw (slice-empty from part) (all-nil goes-on); read = rw (slice-empty from part) }
 
 -- ---- a spoilt line
-
-pub unclosed-none : (part : List ℕ) (from : ℕ) → from ≤ length part → Unclosed part from from
-unclosed-none part from h = record { low = omega arith; high = h; goes = rw (slice-empty from part) (all-nil goes-on) }
-
--- one byte more that closes none
-pub unclosed-more : {part : List ℕ} {from i : ℕ} → Unclosed part from i → i < length part → eqb (getD part i 0) 10 ≡ false → Unclosed part from (i + 1)
-unclosed-more {part} {from} {i} u h e = record {
-  low = omega (arith, u .low);
-  high = omega arith;
-  goes =
-      rw (slice-snoc from i part (u .low) h)
-      (all-append goes-on (slice from i part) (getD part i 0 ∷ []) (u .goes) (all-cons goes-on (getD part i 0) [] (ap not e) (all-nil goes-on)));
-}
 
 -- no byte mends it
 spoilt-stays : (bs : List ℕ) (l : Line) → l .spoilt ≡ true → reads l bs ≡ l

@@ -1,26 +1,16 @@
 -- What is said of the lent buffers.
 use mathlib.Core.Path.{_≡_}
-use mathlib.Core.Bool.{Bool, true, not}
+use mathlib.Core.Bool.{true}
 use mathlib.Core.List.{List, _++_}
 use Prim.Native.Nat.{ℕ, _+_, _≤_}
-use lib.Dec.{eqb}
 use lib.ListN.{length, take, drop}
 use lib.Seq.{slice}
 use Rattle.rules.specs.Lists.{all-pass}
 use Rattle.rules.specs.Terms.{State}
+use Rattle.text.specs.Places.{goes-on}
 use Rattle.line_read.specs.Lines.{line-outcome, reply}
 use Rattle.line_read.specs.Machine.{Line, reads, frame, Session, session-after}
 use Rattle.line_read.specs.Parts.{taken-of}
-
--- a byte that closes no line
-abbrev pub goes-on : ℕ → Bool
-goes-on b = not (eqb b 10)
-
--- none of the bytes from `from` to before from′ is 0A
-pub record Unclosed (part : List ℕ) (from from′ : ℕ) : Type 0 where
-  pub low : from ≤ from′
-  pub high : from′ ≤ length part
-  pub goes : all-pass goes-on (slice from from′ part) ≡ true
 
 -- the bytes from `from` to before from′ were taken, none of them 0A, and l became l′
 pub record Took (part : List ℕ) (from from′ : ℕ) (l l′ : Line) : Type 0 where

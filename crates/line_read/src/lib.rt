@@ -1,11 +1,11 @@
 // Hexadecimal lines: a reader that takes bytes as they come.
 ghost use mathlib.Core.Path.{_≡_};
 ghost use mathlib.Core.Bool.{false};
-ghost use Prim.Native.Nat.{_≤_, _<_};
-ghost use lib.ListN.{length, getD};
+ghost use Prim.Native.Nat.{_≤_};
+ghost use lib.ListN.{length};
 ghost use Rattle.line_hex.specs.Hex.{Values};
 ghost use Rattle.line_read.specs.Machine.{line-of, push, is-frame};
-ghost use Rattle.line_read.specs.Lent.{Took, Unclosed};
+ghost use Rattle.line_read.specs.Lent.{Took};
 
 // What is read of the line that is not closed yet. Its whole words are in the lent frame buffer.
 pub struct Reader {
@@ -73,21 +73,6 @@ pub struct Taken {
     pub reader: Reader,
 }
 
-// Where the bytes of a line end: at its 0A, or with the part.
-fn line_end(part: &[u8], from: usize) -> usize
-    requires { ⌜ from ≤ length (now part) ⌝ }
-    ensures { λ r. ⌜ Unclosed (now (part .entry)) from r × (r < length (now (part .entry)) → getD (now (part .entry)) r 0 ≡ 10) ⌝ }
-{
-    let mut i = from;
-    while i < part.len() {
-        if part[i] == 10 {
-            break;
-        }
-        i += 1;
-    }
-    i
-}
-
 // As many whole words as come next; of a spoilt line, which no byte mends, all that is left of it.
 pub fn take_words(
     values: &[u64; 256],
@@ -102,7 +87,7 @@ pub fn take_words(
     let digits = r.digits;
     if r.spoilt {
         return Taken {
-            from: line_end(part, from),
+            from: text::line_end(part, from),
             reader: r,
         };
     }

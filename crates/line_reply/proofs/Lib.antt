@@ -1,3 +1,2 @@
--- What the loops that write keep: bytes and numbers (Writing), the true variables of a model (Model).
-pub mod Writing
+-- What the writers of a reply keep: the true variables of a model.
 pub mod Model

@@ -19,7 +19,7 @@ use Rattle.line_hex.specs.Hex.{hex}
 use Rattle.line_read.specs.Lines.{in-hex}
 use Rattle.line_read.specs.Lent.{Wrote}
 use Rattle.line_read.proofs.Replies.{spelled-length, trues-few}
-use Rattle.line_reply.proofs.Writing.{wrote-none, wrote-then, wrote-as}
+use Rattle.line_put.proofs.Writing.{wrote-none, wrote-then, wrote-as}
 
 spelled-append : (vs ws : List ℕ) → in-hex (vs ++ ws) ≡ in-hex vs ++ in-hex ws
 unfolding in-hex

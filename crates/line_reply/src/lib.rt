@@ -1,50 +1,15 @@
 // The line of an answer, as bytes, and what the end of input adds. What is written is defined in `line_read`, its digits in `line_hex`.
-ghost use mathlib.Core.Path.{_≡_};
-ghost use mathlib.Core.List.{[], _∷_};
-ghost use Prim.Native.Nat.{_+_, _≤_, _<_};
+ghost use mathlib.Core.List.{[]};
+ghost use Prim.Native.Nat.{_+_, _≤_};
 ghost use lib.ListN.{length};
 ghost use Rattle.rules.specs.Outcomes.{trues};
 ghost use Rattle.lit_sets.specs.Words.{assigned};
-ghost use Rattle.line_hex.specs.Hex.{glyph, hex};
 ghost use Rattle.line_read.specs.Lines.{in-hex, numbered, answer-line};
 ghost use Rattle.line_read.specs.Machine.{end-reply};
 ghost use Rattle.line_read.specs.Lent.{Wrote};
 use line_read::Reader;
 use rules::Answer;
 use rules::Fault;
-
-fn put(out: &mut [u8], at: usize, b: u8) -> usize
-    requires { ⌜ at < length (now out) ⌝ }
-    ensures { λ r. ⌜ Wrote (now (out .entry)) at (b ∷ []) (now (out .exit)) r ⌝ }
-{
-    out[at] = b;
-    at + 1
-}
-
-fn glyph_of(d: usize) -> u8
-    requires { ⌜ d < 16 ⌝ }
-    ensures { λ r. ⌜ r ≡ glyph d ⌝ }
-{
-    if d < 10 {
-        return d as u8 + 48;
-    }
-    d as u8 + 87
-}
-
-// Eight digits.
-fn put_number(out: &mut [u8], at: usize, n: usize) -> usize
-    requires { ⌜ at + 8 ≤ length (now out) ⌝ }
-    ensures { λ r. ⌜ Wrote (now (out .entry)) at (hex 8 n) (now (out .exit)) r ⌝ }
-{
-    let mut a = at;
-    let mut k: usize = 8;
-    while 0 < k {
-        k -= 1;
-        out[a] = glyph_of((n >> (4 * k)) % 16);
-        a += 1;
-    }
-    a
-}
 
 // The true variables, rising. Where no bit is left of a word the next one follows.
 fn put_model(out: &mut [u8], at: usize, model: &[u64; 32]) -> usize
@@ -61,7 +26,7 @@ fn put_model(out: &mut [u8], at: usize, model: &[u64; 32]) -> usize
         }
         i += 1;
         if w % 2 == 1 {
-            a = put_number(out, a, i);
+            a = line_put::put_number(out, a, i);
         }
     }
     a
@@ -71,8 +36,8 @@ fn put_numbers(out: &mut [u8], at: usize, answer: Answer) -> usize
     requires { ⌜ at + 16 ≤ length (now out) ⌝ }
     ensures { λ r. ⌜ Wrote (now (out .entry)) at (numbered answer) (now (out .exit)) r ⌝ }
 {
-    let a = put_number(out, at, rules_codes::code(answer) as usize);
-    put_number(out, a, rules_codes::detail(answer))
+    let a = line_put::put_number(out, at, rules_codes::code(answer) as usize);
+    line_put::put_number(out, a, rules_codes::detail(answer))
 }
 
 // The line of an answer.
@@ -81,7 +46,7 @@ pub fn put_answer(out: &mut [u8], at: usize, answer: Answer) -> usize
     ensures { λ r. ⌜ Wrote (now (out .entry)) at (answer-line answer []) (now (out .exit)) r ⌝ }
 {
     let a = put_numbers(out, at, answer);
-    put(out, a, 10)
+    line_put::put(out, a, 10)
 }
 
 // The line of an accepted SAT.
@@ -91,7 +56,7 @@ pub fn put_sat(out: &mut [u8], at: usize, answer: Answer, model: &[u64; 32]) -> 
 {
     let a = put_numbers(out, at, answer);
     let b = put_model(out, a, model);
-    put(out, b, 10)
+    line_put::put(out, b, 10)
 }
 
 // The end of input: a line that is not closed is refused.

@@ -1,6 +1,6 @@
 // The signed words of a frame, as literals, as numbers, as names of clauses. No other crate looks at a sign.
 ghost use mathlib.Core.Path.{_≡_};
-ghost use mathlib.Core.Bool.{true};
+ghost use mathlib.Core.Bool.{true, cond};
 ghost use Prim.Native.Nat.{_≤_};
 ghost use lib.IntN.{pos, natAbs, negℤ};
 ghost use Rattle.rules.specs.Terms.{in-range, same};
@@ -20,6 +20,15 @@ pub fn opposite(l: i32) -> i32
     ensures { λ r. ⌜ r ≡ negℤ l ⌝ }
 {
     -l
+}
+
+// The literal of a variable, with a minus or without.
+pub fn literal_of(v: u64, minus: bool) -> i32
+    requires { ⌜ v ≤ 2048 ⌝ }
+    ensures { λ r. ⌜ r ≡ cond minus (negℤ (pos v)) (pos v) ⌝ }
+{
+    let l = v as i32;
+    if minus { -l } else { l }
 }
 
 pub fn variable(l: i32) -> usize

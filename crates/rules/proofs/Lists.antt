@@ -111,6 +111,11 @@ module _ {A : Type 0} where
     pub any-none : {x : A} {xs : List A} → any-passes p xs ≡ false → List·Memᴰ x xs → p x ≡ false
     any-none {x} f m = by-cases (p x) (λ t. true-false (any-in m t) f) (λ e. e)
 
+    pub any-last : (xs : List A) (y : A) → any-passes p (xs ++ y ∷ []) ≡ (any-passes p xs || p y)
+    unfolding any-passes
+    any-last [] y = by-cases (p y) (λ e. rw e) (λ e. rw e)
+    any-last (x ∷ xs) y = let r = any-last xs y in by-cases (p x) (λ e. rw e) (λ e. rw (e, r))
+
     pub all-append : (xs ys : List A) → all-pass p xs ≡ true → all-pass p ys ≡ true → all-pass p (xs ++ ys) ≡ true
     unfolding all-pass
     all-append [] ys h k = k

@@ -8,9 +8,9 @@ use Rattle.lent_entries.proofs.Taken.{At}
 use Rattle.lent_entries.proofs.Walks.{stands}
 use Rattle.lent_entries.proofs.entry_at.Met as entry-at-thm
 use Rattle.lent_entries.proofs.entry_at.Symbol as entry-at-def
+use Rattle.library_back.proofs.clause_part.Met as part-thm
+use Rattle.library_back.proofs.clause_part.Symbol as part-def
 use Rattle.library.proofs.Held.{Spanned, names}
-use Rattle.library.proofs.clause_part.Met as part-thm
-use Rattle.library.proofs.clause_part.Symbol as part-def
 use Rattle.library.proofs.zahrubel_clause as f
 use Rattle.library.proofs.zahrubel_clause.Code as code
 use Rattle.library.proofs.zahrubel_clause.Key as key
@@ -29,5 +29,5 @@ zahrubel-clause-spec 𝓤 H 𝓜 𝓖 𝓡 =
     (names part-def.name from many 𝓤 H (𝓖 .A) (givenOf 𝓤 H 𝓜 𝓖) (𝓜 .mem) (𝓡 .run) (tablesOf 𝓤 H 𝓜 (tables 𝓤 H 𝓜 𝓡 code.env))
     (cited 𝓤 H (At 𝓤 H (𝓖 .A) (𝓜 .mem) (𝓡 .run)) 𝓜 𝓡 code.env entry-at-def.name entry-at-def.routine code.calls-lent-entries·entry-at
     (entry-at-thm.met 𝓤 H 𝓜 𝓖 𝓡))
-    (cited 𝓤 H (Spanned part-def.name from many 𝓤 H (𝓖 .A)) 𝓜 𝓡 code.env part-def.name part-def.routine code.calls-library·clause-part
+    (cited 𝓤 H (Spanned part-def.name from many 𝓤 H (𝓖 .A)) 𝓜 𝓡 code.env part-def.name part-def.routine code.calls-library-back·clause-part
     (part-thm.met 𝓤 H 𝓜 𝓖 𝓡)))

@@ -35,18 +35,18 @@ use Rattle.call_give.proofs.Ended.Laws as TE′
 use Rattle.call_give.proofs.end as end′
 use Rattle.call_give.proofs.end.Symbol as end-def
 use Rattle.call_give.proofs.end.Met as end-thm
-use Rattle.library.specs.Exported.{EndHanding, reader-of}
-use Rattle.library.specs.declared.Reading.{Reading}
-use Rattle.library.proofs.EndHanded as TH
-use Rattle.library.proofs.EndHanded.Laws as TH′
-use Rattle.library.proofs.Reading as TX
+use Rattle.library_back.specs.Handed.{EndHanding, reader-of}
+use Rattle.library_back.specs.declared.Reading.{Reading}
+use Rattle.library_back.proofs.EndHanded as TH
+use Rattle.library_back.proofs.EndHanded.Laws as TH′
+use Rattle.library_back.proofs.Reading as TX
+use Rattle.library_back.proofs.reader_of as read
+use Rattle.library_back.proofs.reader_of.Symbol as read-def
+use Rattle.library_back.proofs.reader_of.Met as read-thm
+use Rattle.library_back.proofs.end_back as back
+use Rattle.library_back.proofs.end_back.Symbol as back-def
+use Rattle.library_back.proofs.end_back.Met as back-thm
 use Rattle.library.proofs.Answering.{reader-value, numbers-value, reading-value, Read}
-use Rattle.library.proofs.reader_of as read
-use Rattle.library.proofs.reader_of.Symbol as read-def
-use Rattle.library.proofs.reader_of.Met as read-thm
-use Rattle.library.proofs.end_back as back
-use Rattle.library.proofs.end_back.Symbol as back-def
-use Rattle.library.proofs.end_back.Met as back-thm
 use Rattle.library.proofs.zahrubel_end.Key as key
 use Rattle.library.proofs.zahrubel_end as f
 use Rattle.library.proofs.zahrubel_end.Statement as stated
@@ -119,6 +119,6 @@ unfolding code.routine tablesOf
 zahrubel-end-spec 𝓤 H 𝓜 𝓖 𝓡 =
     stands f.ended passed 𝓤 H 𝓜 𝓖 𝓡 (f.clauses 𝓤 H (𝓖 .A) (𝓜 .mem) (𝓡 .run)) code.env key.name code.function (code.unfolded 𝓤 H 𝓜 𝓡)
     (walk 𝓤 H (𝓖 .A) (givenOf 𝓤 H 𝓜 𝓖) (𝓜 .mem) (𝓡 .run) (tablesOf 𝓤 H 𝓜 (tables 𝓤 H 𝓜 𝓡 code.env))
-    (cited 𝓤 H (Read 𝓤 H (𝓖 .A) (𝓜 .mem) (𝓡 .run)) 𝓜 𝓡 code.env read-def.name read-def.routine code.calls-library·reader-of (read-thm.met 𝓤 H 𝓜 𝓖 𝓡))
+    (cited 𝓤 H (Read 𝓤 H (𝓖 .A) (𝓜 .mem) (𝓡 .run)) 𝓜 𝓡 code.env read-def.name read-def.routine code.calls-library-back·reader-of (read-thm.met 𝓤 H 𝓜 𝓖 𝓡))
     (cited 𝓤 H (End 𝓤 H (𝓖 .A) (𝓜 .mem) (𝓡 .run)) 𝓜 𝓡 code.env end-def.name end-def.routine code.calls-call-give·end (end-thm.met 𝓤 H 𝓜 𝓖 𝓡))
-    (cited 𝓤 H (Back 𝓤 H (𝓖 .A) (𝓜 .mem) (𝓡 .run)) 𝓜 𝓡 code.env back-def.name back-def.routine code.calls-library·end-back (back-thm.met 𝓤 H 𝓜 𝓖 𝓡)))
+    (cited 𝓤 H (Back 𝓤 H (𝓖 .A) (𝓜 .mem) (𝓡 .run)) 𝓜 𝓡 code.env back-def.name back-def.routine code.calls-library-back·end-back (back-thm.met 𝓤 H 𝓜 𝓖 𝓡)))

@@ -43,20 +43,20 @@ use Rattle.call_give.proofs.Given.Laws as TG′
 use Rattle.call_give.proofs.give as give
 use Rattle.call_give.proofs.give.Symbol as give-def
 use Rattle.call_give.proofs.give.Met as give-thm
-use Rattle.library.specs.Exported.{PartHanding, reader-of}
-use Rattle.library.specs.declared.Reading.{Reading}
-use Rattle.library.proofs.Counts as TK
-use Rattle.library.proofs.Counts.Laws as TK′
-use Rattle.library.proofs.PartHanded as TH
-use Rattle.library.proofs.PartHanded.Laws as TH′
-use Rattle.library.proofs.Reading as TX
+use Rattle.library_back.specs.Handed.{PartHanding, reader-of}
+use Rattle.library_back.specs.declared.Reading.{Reading}
+use Rattle.library_back.proofs.Counts as TK
+use Rattle.library_back.proofs.Counts.Laws as TK′
+use Rattle.library_back.proofs.PartHanded as TH
+use Rattle.library_back.proofs.PartHanded.Laws as TH′
+use Rattle.library_back.proofs.Reading as TX
+use Rattle.library_back.proofs.reader_of as read
+use Rattle.library_back.proofs.reader_of.Symbol as read-def
+use Rattle.library_back.proofs.reader_of.Met as read-thm
+use Rattle.library_back.proofs.hand_back as hand
+use Rattle.library_back.proofs.hand_back.Symbol as hand-def
+use Rattle.library_back.proofs.hand_back.Met as hand-thm
 use Rattle.library.proofs.Answering.{answer-value, reader-value, numbers-value, reading-value, Read}
-use Rattle.library.proofs.reader_of as read
-use Rattle.library.proofs.reader_of.Symbol as read-def
-use Rattle.library.proofs.reader_of.Met as read-thm
-use Rattle.library.proofs.hand_back as hand
-use Rattle.library.proofs.hand_back.Symbol as hand-def
-use Rattle.library.proofs.hand_back.Met as hand-thm
 use Rattle.library.proofs.zahrubel_give.Key as key
 use Rattle.library.proofs.zahrubel_give as f
 use Rattle.library.proofs.zahrubel_give.Statement as stated
@@ -187,6 +187,6 @@ unfolding code.routine tablesOf
 zahrubel-give-spec 𝓤 H 𝓜 𝓖 𝓡 =
     stands f.ended passed 𝓤 H 𝓜 𝓖 𝓡 (f.clauses 𝓤 H (𝓖 .A) (𝓜 .mem) (𝓡 .run)) code.env key.name code.function (code.unfolded 𝓤 H 𝓜 𝓡)
     (walk 𝓤 H (𝓖 .A) (givenOf 𝓤 H 𝓜 𝓖) (𝓜 .mem) (𝓡 .run) (tablesOf 𝓤 H 𝓜 (tables 𝓤 H 𝓜 𝓡 code.env))
-    (cited 𝓤 H (Read 𝓤 H (𝓖 .A) (𝓜 .mem) (𝓡 .run)) 𝓜 𝓡 code.env read-def.name read-def.routine code.calls-library·reader-of (read-thm.met 𝓤 H 𝓜 𝓖 𝓡))
+    (cited 𝓤 H (Read 𝓤 H (𝓖 .A) (𝓜 .mem) (𝓡 .run)) 𝓜 𝓡 code.env read-def.name read-def.routine code.calls-library-back·reader-of (read-thm.met 𝓤 H 𝓜 𝓖 𝓡))
     (cited 𝓤 H (Give 𝓤 H (𝓖 .A) (𝓜 .mem) (𝓡 .run)) 𝓜 𝓡 code.env give-def.name give-def.routine code.calls-call-give·give (give-thm.met 𝓤 H 𝓜 𝓖 𝓡))
-    (cited 𝓤 H (Hand 𝓤 H (𝓖 .A) (𝓜 .mem) (𝓡 .run)) 𝓜 𝓡 code.env hand-def.name hand-def.routine code.calls-library·hand-back (hand-thm.met 𝓤 H 𝓜 𝓖 𝓡)))
+    (cited 𝓤 H (Hand 𝓤 H (𝓖 .A) (𝓜 .mem) (𝓡 .run)) 𝓜 𝓡 code.env hand-def.name hand-def.routine code.calls-library-back·hand-back (hand-thm.met 𝓤 H 𝓜 𝓖 𝓡)))

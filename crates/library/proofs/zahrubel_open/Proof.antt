@@ -35,14 +35,14 @@ use Rattle.call_step.specs.Calls.{Opening}
 use Rattle.call_step.proofs.open as open′
 use Rattle.call_step.proofs.open.Symbol as open-def
 use Rattle.call_step.proofs.open.Met as open-thm
-use Rattle.library.specs.Exported.{Numbered, carried-after}
+use Rattle.library_back.specs.Handed.{Numbered, carried-after}
+use Rattle.library_back.proofs.after_opening as after
+use Rattle.library_back.proofs.after_opening.Symbol as after-def
+use Rattle.library_back.proofs.after_opening.Met as after-thm
+use Rattle.library_back.proofs.numbers_of as num
+use Rattle.library_back.proofs.numbers_of.Symbol as num-def
+use Rattle.library_back.proofs.numbers_of.Met as num-thm
 use Rattle.library.proofs.Answering.{answer-value, called-value, numbers-value, Num}
-use Rattle.library.proofs.after_opening as after
-use Rattle.library.proofs.after_opening.Symbol as after-def
-use Rattle.library.proofs.after_opening.Met as after-thm
-use Rattle.library.proofs.numbers_of as num
-use Rattle.library.proofs.numbers_of.Symbol as num-def
-use Rattle.library.proofs.numbers_of.Met as num-thm
 use Rattle.library.proofs.zahrubel_open.Key as key
 use Rattle.library.proofs.zahrubel_open as f
 use Rattle.library.proofs.zahrubel_open.Statement as stated
@@ -110,5 +110,6 @@ zahrubel-open-spec 𝓤 H 𝓜 𝓖 𝓡 =
     stands f.ended passed 𝓤 H 𝓜 𝓖 𝓡 (f.clauses 𝓤 H (𝓖 .A) (𝓜 .mem) (𝓡 .run)) code.env key.name code.function (code.unfolded 𝓤 H 𝓜 𝓡)
     (walk 𝓤 H (𝓖 .A) (givenOf 𝓤 H 𝓜 𝓖) (𝓜 .mem) (𝓡 .run) (tablesOf 𝓤 H 𝓜 (tables 𝓤 H 𝓜 𝓡 code.env))
     (cited 𝓤 H (Open 𝓤 H (𝓖 .A) (𝓜 .mem) (𝓡 .run)) 𝓜 𝓡 code.env open-def.name open-def.routine code.calls-call-step·open (open-thm.met 𝓤 H 𝓜 𝓖 𝓡))
-    (cited 𝓤 H (After 𝓤 H (𝓖 .A) (𝓜 .mem) (𝓡 .run)) 𝓜 𝓡 code.env after-def.name after-def.routine code.calls-library·after-opening (after-thm.met 𝓤 H 𝓜 𝓖 𝓡))
-    (cited 𝓤 H (Num 𝓤 H (𝓖 .A) (𝓜 .mem) (𝓡 .run)) 𝓜 𝓡 code.env num-def.name num-def.routine code.calls-library·numbers-of (num-thm.met 𝓤 H 𝓜 𝓖 𝓡)))
+    (cited 𝓤 H (After 𝓤 H (𝓖 .A) (𝓜 .mem) (𝓡 .run)) 𝓜 𝓡 code.env after-def.name after-def.routine code.calls-library-back·after-opening
+    (after-thm.met 𝓤 H 𝓜 𝓖 𝓡))
+    (cited 𝓤 H (Num 𝓤 H (𝓖 .A) (𝓜 .mem) (𝓡 .run)) 𝓜 𝓡 code.env num-def.name num-def.routine code.calls-library-back·numbers-of (num-thm.met 𝓤 H 𝓜 𝓖 𝓡)))

@@ -36,11 +36,11 @@ use Rattle.call_step.specs.Calls.{Stepping}
 use Rattle.call_step.proofs.step as step′
 use Rattle.call_step.proofs.step.Symbol as step-def
 use Rattle.call_step.proofs.step.Met as step-thm
-use Rattle.library.specs.Exported.{Numbered}
+use Rattle.library_back.specs.Handed.{Numbered}
+use Rattle.library_back.proofs.numbers_of as num
+use Rattle.library_back.proofs.numbers_of.Symbol as num-def
+use Rattle.library_back.proofs.numbers_of.Met as num-thm
 use Rattle.library.proofs.Answering.{answer-value, called-value, numbers-value, Num}
-use Rattle.library.proofs.numbers_of as num
-use Rattle.library.proofs.numbers_of.Symbol as num-def
-use Rattle.library.proofs.numbers_of.Met as num-thm
 use Rattle.library.proofs.zahrubel_step.Key as key
 use Rattle.library.proofs.zahrubel_step as f
 use Rattle.library.proofs.zahrubel_step.Statement as stated
@@ -112,4 +112,4 @@ zahrubel-step-spec 𝓤 H 𝓜 𝓖 𝓡 =
     stands f.ended passed 𝓤 H 𝓜 𝓖 𝓡 (f.clauses 𝓤 H (𝓖 .A) (𝓜 .mem) (𝓡 .run)) code.env key.name code.function (code.unfolded 𝓤 H 𝓜 𝓡)
     (walk 𝓤 H (𝓖 .A) (givenOf 𝓤 H 𝓜 𝓖) (𝓜 .mem) (𝓡 .run) (tablesOf 𝓤 H 𝓜 (tables 𝓤 H 𝓜 𝓡 code.env))
     (cited 𝓤 H (Step 𝓤 H (𝓖 .A) (𝓜 .mem) (𝓡 .run)) 𝓜 𝓡 code.env step-def.name step-def.routine code.calls-call-step·step (step-thm.met 𝓤 H 𝓜 𝓖 𝓡))
-    (cited 𝓤 H (Num 𝓤 H (𝓖 .A) (𝓜 .mem) (𝓡 .run)) 𝓜 𝓡 code.env num-def.name num-def.routine code.calls-library·numbers-of (num-thm.met 𝓤 H 𝓜 𝓖 𝓡)))
+    (cited 𝓤 H (Num 𝓤 H (𝓖 .A) (𝓜 .mem) (𝓡 .run)) 𝓜 𝓡 code.env num-def.name num-def.routine code.calls-library-back·numbers-of (num-thm.met 𝓤 H 𝓜 𝓖 𝓡)))

@@ -15,7 +15,7 @@ abbrev μ-loop : tie.MeasureT-loop
 μ-loop values part from frame₀ digits k₀ i₀ frame k i = 4096 - k
 
 returns : tie.Need-returns Inv-loop μ-loop
-returns c = took-spoilt _ (c .line-end .ensures .0) (c .before .before .before .pre .1) (c .before .if1 .taken)
+returns c = took-spoilt _ (c .line-end .ensures .unclosed) (c .before .before .before .pre .1) (c .before .if1 .taken)
 
 returns-2 : tie.Need-returns-2 Inv-loop μ-loop
 returns-2 c = let s = c .before .before .before .before in took-none _ _ _ (s .pre .0) (s .pre .1)

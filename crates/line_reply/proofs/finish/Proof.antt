@@ -1,6 +1,6 @@
 use mathlib.Core.Logic.{⊎-elim}
 use borrow.Author.Needs.{needs}
-use Rattle.line_reply.proofs.Writing.{wrote-none}
+use Rattle.line_put.proofs.Writing.{wrote-none}
 use Rattle.line_reply.proofs.finish.Statement.{statement}
 use Rattle.line_reply.proofs.finish.Tie as tie
 

@@ -1,7 +1,8 @@
 use native.Mathlib.Omega.{arith}
 use borrow.Author.Needs.{needs}
 use Rattle.line_read.specs.Lines.{in-hex}
-use Rattle.line_reply.proofs.Writing.{wrote-then, numbered-end}
+use Rattle.line_read.proofs.Replies.{numbered-end}
+use Rattle.line_put.proofs.Writing.{wrote-then}
 use Rattle.line_reply.proofs.put_answer.Statement.{statement}
 use Rattle.line_reply.proofs.put_answer.Tie as tie
 

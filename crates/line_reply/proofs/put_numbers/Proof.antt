@@ -3,7 +3,7 @@ use native.Mathlib.Omega.{arith}
 use borrow.Author.Needs.{needs}
 use Rattle.line_hex.specs.Hex.{hex}
 use Rattle.line_read.specs.Lines.{numbered}
-use Rattle.line_reply.proofs.Writing.{hex-end, wrote-then, wrote-as}
+use Rattle.line_put.proofs.Writing.{hex-end, wrote-then, wrote-as}
 use Rattle.line_reply.proofs.put_numbers.Statement.{statement}
 use Rattle.line_reply.proofs.put_numbers.Tie as tie
 

@@ -1,6 +1,7 @@
 use native.Mathlib.Omega.{arith}
 use borrow.Author.Needs.{needs}
-use Rattle.line_reply.proofs.Writing.{wrote-then, numbered-end}
+use Rattle.line_read.proofs.Replies.{numbered-end}
+use Rattle.line_put.proofs.Writing.{wrote-then}
 use Rattle.line_reply.proofs.Model.{model-room}
 use Rattle.line_reply.proofs.put_sat.Statement.{statement}
 use Rattle.line_reply.proofs.put_sat.Tie as tie

@@ -1,0 +1,2 @@
+-- What is told of the clauses of a text.
+pub mod Told

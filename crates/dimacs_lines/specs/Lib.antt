@@ -1,0 +1,2 @@
+-- Frames and faults as hexadecimal lines: Lines.
+pub mod Lines

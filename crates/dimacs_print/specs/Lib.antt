@@ -1,0 +1,2 @@
+-- The lines that stand in a buffer: Printed.
+pub mod Printed

@@ -1,0 +1,2 @@
+-- What is told of the problem line.
+pub mod Told

@@ -1,0 +1,3 @@
+-- What goes back over the archive's calls.
+pub mod Handed
+pub mod Told
