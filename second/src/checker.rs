@@ -105,7 +105,7 @@ impl Checker {
     fn learn(&mut self, id: i32, clause: &[i32], hints: Part<'_>) -> Result<(), Refusal> {
         self.judge_new(id)?;
         self.judge_room(clause)?;
-        self.prove_from_all(clause.iter().copied(), hints)?;
+        self.prove_from_held(clause.iter().copied(), hints)?;
         self.accept_new(id, clause);
         self.state.learned.insert(id, clause.to_vec());
         Ok(())
@@ -123,7 +123,8 @@ impl Checker {
         Ok(())
     }
 
-    /// "irredundant, proved from the *other* irredundant clauses; goes"
+    /// "irredundant, proved from the *other* irredundant clauses; goes". Of stacked clauses
+    /// document 02 says: "DROP and WEAKEN still may not."
     fn drop_clause(&mut self, id: i32, hints: Part<'_>) -> Result<(), Refusal> {
         let irredundant = &self.state.irredundant;
         let clause = find(irredundant, id)?;
@@ -136,7 +137,8 @@ impl Checker {
         Ok(())
     }
 
-    /// "irredundant clause moves to the top of the stack with its witness"
+    /// "irredundant clause moves to the top of the stack with its witness"; its hints name
+    /// irredundant clauses alone, as those of DROP do.
     fn weaken(&mut self, id: i32, witness: &[i32], groups: Part<'_>) -> Result<(), Refusal> {
         let clause = find(&self.state.irredundant, id)?;
         self.marks.become_set(witness);
@@ -195,22 +197,22 @@ impl Checker {
         ))
     }
 
-    /// "the opposites of the assumptions, as target, proved from irredundant and learned"
+    /// "the opposites of the assumptions, as target, proved from irredundant and learned", and
+    /// from stacked clauses by document 02.
     fn unsat(&mut self, assumptions: &[i32], hints: Part<'_>) -> Result<(), Refusal> {
-        self.prove_from_all(assumptions.iter().map(|&literal| -literal), hints)
+        self.prove_from_held(assumptions.iter().map(|&literal| -literal), hints)
     }
 
-    fn prove_from_all(
+    /// Irredundant and learned clauses by document 01, and by document 02: "A stacked clause
+    /// follows from what was added, so LEARN and UNSAT may name it as a hint from now on."
+    fn prove_from_held(
         &mut self,
         target: impl Iterator<Item = i32>,
         hints: Part<'_>,
     ) -> Result<(), Refusal> {
-        let (irredundant, learned) = (&self.state.irredundant, &self.state.learned);
-        prove(&mut self.values, target, hints, |hint| {
-            let clause = irredundant.get(&hint).or_else(|| learned.get(&hint));
-            clause.map(Vec::as_slice)
-        })
-        .map_err(|unproved| refusal(unproved, 0))
+        let state = &self.state;
+        prove(&mut self.values, target, hints, |hint| state.find(hint))
+            .map_err(|unproved| refusal(unproved, 0))
     }
 
     /// "A new id must be greater than every id accepted before since opening."

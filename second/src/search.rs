@@ -1,6 +1,6 @@
 //! The simulated solver's own propagation: it looks for the hints that the checker only reads.
 
-use crate::state::Place;
+use crate::state::{Place, Record};
 use crate::terms::variable;
 use crate::values::Values;
 
@@ -31,12 +31,24 @@ impl<'c> Clauses<'c> {
     /// The clauses of a place besides those already there.
     pub fn and(mut self, place: &'c Place) -> Clauses<'c> {
         for (&id, clause) in place {
-            for &literal in clause {
-                self.holding[slot(literal)].push(self.named.len());
-            }
-            self.named.push((id, clause));
+            self.push((id, clause));
         }
         self
+    }
+
+    /// The stacked clauses besides those already there.
+    pub fn and_stacked(mut self, stack: &'c [Record]) -> Clauses<'c> {
+        for record in stack {
+            self.push((record.id, &record.clause));
+        }
+        self
+    }
+
+    fn push(&mut self, named: Named<'c>) {
+        for &literal in named.1 {
+            self.holding[slot(literal)].push(self.named.len());
+        }
+        self.named.push(named);
     }
 
     /// Hints that prove the target without the clause `except`, unless propagation finds none.

@@ -43,6 +43,18 @@ impl State {
         }
     }
 
+    /// The clause of an id, in whichever of the three places it is.
+    pub fn find(&self, id: i32) -> Option<&[i32]> {
+        let clause = self.irredundant.get(&id).or_else(|| self.learned.get(&id));
+        clause.map(Vec::as_slice).or_else(|| self.find_stacked(id))
+    }
+
+    /// The clause of an id, if it is stacked.
+    pub fn find_stacked(&self, id: i32) -> Option<&[i32]> {
+        let record = self.stack.iter().find(|record| record.id == id);
+        record.map(|record| record.clause.as_slice())
+    }
+
     /// How many clauses the three places hold.
     pub fn clauses(&self) -> usize {
         self.irredundant.len() + self.learned.len() + self.stack.len()

@@ -1,17 +1,21 @@
-//! The judge can fail: checkers that deviate from document 01 in one rule are found out.
+//! The judge and the comparison can fail: checkers that deviate from documents 01 and 02 in one
+//! rule are found out.
 //!
 //! A deviant stands around the true checker. It looks at the state before the step, the frame
 //! and the true answer, and may put another state and answer in their place.
 
-use second::answer::Answer;
+use second::answer::{Answer, Refusal};
 use second::assignment::Assignment;
 use second::checker::{Checker, Checks};
 use second::frame::{Frame, Part};
 use second::frames::sat;
+use second::histogram::lines_of;
 use second::judge::judge_history;
-use second::propagation::prove;
+use second::lines::{opened, read_words};
+use second::propagation::{prove, Unproved};
 use second::search::Clauses;
 use second::state::{Record, State};
+use second::traces::{find_class, CLASSES};
 use second::values::Values;
 
 /// The state and answer in place of the true ones.
@@ -92,25 +96,52 @@ fn drop_without_proof(before: &State, frame: Frame<'_>, answer: &Answer) -> Inst
     accepted(state)
 }
 
-/// Any clause of irredundant and learned, but not the one that leaves.
-fn proved_with_learned(before: &State, id: i32, target: Vec<i32>, hints: Part<'_>) -> bool {
-    let mut values = Values::new(before.vars);
-    let proof = prove(&mut values, target.into_iter(), hints, |hint| {
-        let places = [&before.irredundant, &before.learned];
-        let found = places.iter().find_map(|place| place.get(&hint));
-        found.filter(|_| hint != id).map(Vec::as_slice)
-    });
-    proof.is_ok()
+/// The clause of an id in an allowed set.
+type Allowed = fn(&State, i32) -> Option<&[i32]>;
+
+fn irredundant_or_learned(state: &State, id: i32) -> Option<&[i32]> {
+    let clause = state
+        .irredundant
+        .get(&id)
+        .or_else(|| state.learned.get(&id));
+    clause.map(Vec::as_slice)
 }
 
-fn drop_leans_on_learned(before: &State, frame: Frame<'_>, answer: &Answer) -> Instead {
+fn irredundant_or_stacked(state: &State, id: i32) -> Option<&[i32]> {
+    let clause = state.irredundant.get(&id).map(Vec::as_slice);
+    clause.or_else(|| state.find_stacked(id))
+}
+
+/// Judges a target against an allowed set without the clause that leaves, 0 for none.
+fn proved(
+    before: &State,
+    target: &[i32],
+    hints: Part<'_>,
+    allowed: Allowed,
+    leaving: i32,
+) -> Result<(), Unproved> {
+    let mut values = Values::new(before.vars);
+    prove(&mut values, target.iter().copied(), hints, |hint| {
+        allowed(before, hint).filter(|_| hint != leaving)
+    })
+}
+
+fn drop_leans_on(allowed: Allowed, before: &State, frame: Frame<'_>, answer: &Answer) -> Instead {
     let (Frame::Drop { id, hints }, 7) = (frame, answer.code) else {
         return None;
     };
     let mut state = before.clone();
     let clause = state.irredundant.remove(&id)?;
-    proved_with_learned(before, id, clause, hints).then_some(())?;
+    proved(before, &clause, hints, allowed, id).ok()?;
     accepted(state)
+}
+
+fn drop_leans_on_learned(before: &State, frame: Frame<'_>, answer: &Answer) -> Instead {
+    drop_leans_on(irredundant_or_learned, before, frame, answer)
+}
+
+fn drop_leans_on_stacked(before: &State, frame: Frame<'_>, answer: &Answer) -> Instead {
+    drop_leans_on(irredundant_or_stacked, before, frame, answer)
 }
 
 /// Moves the clause to the stack, as WEAKEN does.
@@ -132,7 +163,7 @@ fn weaken_ignores_groups(before: &State, frame: Frame<'_>, answer: &Answer) -> I
     }
 }
 
-fn weaken_leans_on_learned(before: &State, frame: Frame<'_>, answer: &Answer) -> Instead {
+fn weaken_leans_on(allowed: Allowed, before: &State, frame: Frame<'_>, answer: &Answer) -> Instead {
     let (
         Frame::Weaken {
             id,
@@ -151,10 +182,18 @@ fn weaken_leans_on_learned(before: &State, frame: Frame<'_>, answer: &Answer) ->
         let mut target = before.irredundant.get(&id)?.clone();
         let touched = before.irredundant.get(&header.words[0])?.iter();
         target.extend(touched.filter(|&literal| !witness.words.contains(&-literal)));
-        proved_with_learned(before, id, target, hints).then_some(())?;
+        proved(before, &target, hints, allowed, id).ok()?;
         rest = behind;
     }
     stacked(before, id, witness)
+}
+
+fn weaken_leans_on_learned(before: &State, frame: Frame<'_>, answer: &Answer) -> Instead {
+    weaken_leans_on(irredundant_or_learned, before, frame, answer)
+}
+
+fn weaken_leans_on_stacked(before: &State, frame: Frame<'_>, answer: &Answer) -> Instead {
+    weaken_leans_on(irredundant_or_stacked, before, frame, answer)
 }
 
 fn restore_without_cleanness(before: &State, frame: Frame<'_>, answer: &Answer) -> Instead {
@@ -236,13 +275,45 @@ fn drop_implied_records(before: &State, frame: Frame<'_>, answer: &Answer) -> In
     Some((state, answer))
 }
 
-const DEVIATIONS: [(&str, Deviation); 13] = [
+/// The refusal of a target that irredundant and learned clauses alone do not prove.
+fn refused_without_stacked(before: &State, target: &[i32], hints: Part<'_>) -> Instead {
+    let unproved = proved(before, target, hints, irredundant_or_learned, 0).err()?;
+    let refusal = match unproved {
+        Unproved::Hint { word } => Refusal::Hint { word },
+        Unproved::UsedUp => Refusal::UsedUp { clause: 0 },
+    };
+    Some((before.clone(), refusal.into()))
+}
+
+fn learn_refuses_stacked(before: &State, frame: Frame<'_>, answer: &Answer) -> Instead {
+    match (frame, answer.code) {
+        (Frame::Learn { clause, hints, .. }, 0 | 7 | 8) => {
+            refused_without_stacked(before, clause.words, hints)
+        }
+        _ => None,
+    }
+}
+
+fn unsat_refuses_stacked(before: &State, frame: Frame<'_>, answer: &Answer) -> Instead {
+    match (frame, answer.code) {
+        (Frame::Unsat { assumptions, hints }, 0 | 7 | 8) => {
+            let target = assumptions.words.iter().map(|literal| -literal);
+            refused_without_stacked(before, &target.collect::<Vec<i32>>(), hints)
+        }
+        _ => None,
+    }
+}
+
+/// These break demand 3.
+const UNSOUND: [(&str, Deviation); 15] = [
     ("ADD without cleanness", add_without_cleanness),
     ("LEARN without proof", learn_without_proof),
     ("DROP without proof", drop_without_proof),
     ("DROP leans on learned", drop_leans_on_learned),
+    ("DROP leans on stacked", drop_leans_on_stacked),
     ("WEAKEN ignores groups", weaken_ignores_groups),
     ("WEAKEN leans on learned", weaken_leans_on_learned),
+    ("WEAKEN leans on stacked", weaken_leans_on_stacked),
     ("RESTORE without cleanness", restore_without_cleanness),
     ("assumptions without cleanness", assume_without_cleanness),
     ("walk upward", walk_upward),
@@ -252,9 +323,15 @@ const DEVIATIONS: [(&str, Deviation); 13] = [
     ("implied records dropped", drop_implied_records),
 ];
 
+/// These refuse what is right: demand 3 holds all the same.
+const TOO_STRICT: [(&str, Deviation); 2] = [
+    ("LEARN refuses stacked hints", learn_refuses_stacked),
+    ("UNSAT refuses stacked hints", unsat_refuses_stacked),
+];
+
 #[test]
-fn every_deviant_is_found_out() {
-    for (name, deviation) in DEVIATIONS {
+fn the_judge_finds_every_unsound_deviant() {
+    for (name, deviation) in UNSOUND {
         let found = found_out(deviation, 2_000);
         println!("{name}: found out in {found} of 2000 histories");
         assert!(found > 0, "{name} is not found out");
@@ -264,4 +341,57 @@ fn every_deviant_is_found_out() {
 #[test]
 fn the_true_checker_is_not() {
     assert_eq!(found_out(|_, _, _| None, 2_000), 0);
+}
+
+/// The frames of a trace, without lines that are none.
+fn frames_of(trace: &[u8]) -> Vec<Vec<i32>> {
+    let lines = lines_of(trace).filter(|&(_, closed)| closed);
+    let frames = lines.filter_map(|(line, _)| {
+        let mut words = Vec::new();
+        read_words(line, &mut words).map(|()| words)
+    });
+    frames.collect()
+}
+
+/// Whether a deviant answers some frame otherwise than the true checker does.
+fn differs(deviation: Deviation, frames: &[Vec<i32>]) -> bool {
+    let mut checker = opened();
+    let mut deviant = Deviant {
+        checker: opened(),
+        deviation,
+    };
+    let mut frames = frames.iter();
+    frames.any(|frame| checker.step(frame) != deviant.step(frame))
+}
+
+#[test]
+fn the_comparison_finds_every_deviant() {
+    let all = CLASSES
+        .iter()
+        .flat_map(|class| (0..2).map(|seed| class.trace(seed)));
+    let all: Vec<Vec<Vec<i32>>> = all.map(|trace| frames_of(&trace)).collect();
+    for (name, deviation) in UNSOUND.into_iter().chain(TOO_STRICT) {
+        let found = all
+            .iter()
+            .filter(|frames| differs(deviation, frames))
+            .count();
+        println!("{name}: found out in {found} of {} traces", all.len());
+        assert!(found > 0, "{name} is not found out");
+    }
+}
+
+#[test]
+fn each_trace_about_stacked_hints_finds_those_that_deviate_there() {
+    let class = find_class("stacked-hints").expect("a class of this name");
+    let deviations = UNSOUND.into_iter().chain(TOO_STRICT);
+    let deviations: Vec<_> = deviations
+        .filter(|(name, _)| name.contains("stacked"))
+        .collect();
+    assert_eq!(deviations.len(), 4);
+    for seed in 0..60 {
+        let frames = frames_of(&class.trace(seed));
+        for (name, deviation) in &deviations {
+            assert!(differs(*deviation, &frames), "{name}, seed {seed}");
+        }
+    }
 }

@@ -116,7 +116,7 @@ fn is_found(least: usize, what: &str, deviate: impl Fn(&mut Deviant)) {
         deviate(&mut deviant);
         run(&mut deviant, *seed, &mut Tally::default()).is_err()
     };
-    let found = (0..200).filter(differs).take(least).count();
+    let found = (0..400).filter(differs).take(least).count();
     assert_eq!(found, least, "{what}: not found in enough histories");
 }
 

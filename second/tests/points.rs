@@ -200,11 +200,6 @@ fn a_clause_is_looked_for_in_the_place_its_row_names() {
     for wrong in [1, 2, 4] {
         assert_eq!(said(&state, &restore(wrong)), (4, wrong as u32));
     }
-    assert_eq!(
-        said(&state, &unsat(&[-3], &[3])),
-        (7, 3),
-        "stacked is no hint"
-    );
 }
 
 #[test]

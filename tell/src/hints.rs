@@ -10,7 +10,7 @@ use std::collections::HashSet;
 /// Which clauses a hint may name.
 #[derive(Clone, Copy)]
 pub enum Allowed<'h> {
-    /// LEARN, UNSAT: irredundant and learned ones.
+    /// LEARN, UNSAT: all that are held.
     All(&'h Held),
     /// DROP, WEAKEN: irredundant ones other than this.
     IrredundantBut(&'h Held, i32),
@@ -78,12 +78,12 @@ impl<'h> Allowed<'h> {
         };
         let told = clause(literals);
         match place {
-            Place::Stacked => Err(format!("clause {id} is stacked: {told}")),
             Place::Irredundant if leaving == Some(id) => {
                 Err(format!("clause {id} is the one that goes: {told}"))
             }
-            Place::Learned if leaving.is_some() => Err(format!(
-                "clause {id} is learned, and only irredundant ones serve here: {told}"
+            Place::Learned | Place::Stacked if leaving.is_some() => Err(format!(
+                "clause {id} is {}, and only irredundant ones serve here: {told}",
+                place.name()
             )),
             _ => Ok(literals),
         }
@@ -124,6 +124,7 @@ mod tests {
         assert_eq!(read([1].into_iter(), &[1, 2, 99], all), Reading::Proved);
         assert_eq!(read([1].into_iter(), &[1], all), Reading::UsedUp);
         assert_eq!(read([4, -4].into_iter(), &[99], all), Reading::Proved);
+        assert_eq!(read([5, 6].into_iter(), &[4], all), Reading::Proved);
     }
 
     #[test]
@@ -133,7 +134,18 @@ mod tests {
         let other = Allowed::IrredundantBut(&held, 1);
         for (allowed, hints, place, told) in [
             (all, &[1, 99][..], 1, "no clause 99 is held"),
-            (all, &[4], 0, "clause 4 is stacked: (5 6)"),
+            (
+                all,
+                &[4],
+                0,
+                "clause 4 has two open literals, 5 and 6: (5 6)",
+            ),
+            (
+                other,
+                &[4],
+                0,
+                "clause 4 is stacked, and only irredundant ones serve here: (5 6)",
+            ),
             (
                 all,
                 &[5],

@@ -56,7 +56,8 @@ pub record ClauseBehind (text : List ℕ) (x : ClosedClause) : Type 0 where
   pub rest : x .rest ≡ words-from false (x .behind) text
   pub behind : Behind text (x .behind)
 
-pub clause-behind : (text : List ℕ) (ws : List TextWord) (begun : List ℤ) {x : ClosedClause} → Standing text ws → next-clause begun ws ≡ some x → ClauseBehind text x
+pub clause-behind : (text : List ℕ) (ws : List TextWord) (begun : List ℤ) {x : ClosedClause} → Standing text ws → next-clause begun ws ≡ some x
+    → ClauseBehind text x
 unfolding next-clause
 clause-behind text [] begun s e = no-clause e
 clause-behind text (w ∷ ws) begun {x} s e = of (clause-word 2048 w) e (λ l q. clause-behind text ws (begun ++ (l ∷ [])) (rest-stands (s w ws refl)) q)
@@ -98,7 +99,8 @@ number-read (some n) f more e = (n, e)
 
 -- the problem line, from its last word to its first: what is read behind so many words of it
 module _ (end : ℕ) {x : Cnf} where
-  of-counted : (vars n : ℕ) (ws : List TextWord) → 1 ≤ vars → vars ≤ 2048 → (r : Read (List (List ℤ))) → read-clauses vars end [] ws ≡ r → counted vars n end r ≡ sound x
+  of-counted : (vars n : ℕ) (ws : List TextWord) → 1 ≤ vars → vars ≤ 2048 → (r : Read (List (List ℤ))) → read-clauses vars end [] ws ≡ r
+      → counted vars n end r ≡ sound x
       → BodyOf end ws x
   of-counted vars n ws low high (faulty f) q e = unsound e
   of-counted vars n ws low high (sound cs) q e =

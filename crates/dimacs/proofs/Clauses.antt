@@ -112,7 +112,8 @@ module _ (vars end : ℕ) (few : vars ≤ 2048) where
 
     at-word : (k : ClauseWord) → clause-word vars w ≡ k
         → take-word k (w .at) begun (preceded begun (read-clauses vars end [] ws)) (λ l. read-clauses vars end (begun ++ (l ∷ [])) ws) ≡ sound cs
-        → ((l : ℤ) → read-clauses vars end (begun ++ (l ∷ [])) ws ≡ sound cs → NextOrNone vars end (begun ++ (l ∷ [])) ws cs) → NextOf vars end begun (w ∷ ws) cs
+        → ((l : ℤ) → read-clauses vars end (begun ++ (l ∷ [])) ws ≡ sound cs → NextOrNone vars end (begun ++ (l ∷ [])) ws cs)
+        → NextOf vars end begun (w ∷ ws) cs
     unfolding take-word
     at-word (Wrong f) k e more = unsound e
     at-word Closing k e more = at-closing k (read-clauses vars end [] ws) refl e

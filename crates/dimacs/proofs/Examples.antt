@@ -10,7 +10,8 @@ use Rattle.rules.specs.Lists.{any-passes, all-pass}
 use Rattle.rules.specs.Outcomes.{_⊞_, _⊟_}
 use Rattle.text.specs.Words.{text-lines, line-words, words-of-lines}
 use Rattle.text_numbers.specs.Numbers.{said-on, natural-of, integer-of, decimal-in}
-use Rattle.dimacs.specs.Reading.{fault-numbers, Read, faulty, sound, expect, expect-number, clause-word, take-word, read-clauses, Cnf, read-number, read-format}
+use Rattle.dimacs.specs.Reading.{fault-numbers, Read, faulty, sound, expect, expect-number, clause-word, take-word, read-clauses, Cnf, read-number}
+use Rattle.dimacs.specs.Reading.{read-format}
 use Rattle.dimacs.specs.Reading.{read-problem, read-text}
 use Rattle.dimacs.specs.Frames.{add-frames, frames-of}
 use Rattle.dimacs.specs.Writing.{clause-text, clauses-text, cnf-text}
@@ -100,8 +101,8 @@ upto zero c = c
 upto (suc n) c = upto n (pos (suc n) ∷ c)
 
 pub long-example : fault-of (read-text (cnf-text 257 (upto 257 [] ∷ []))) ≡ some (26, 928)
-unfolding upto clause-text clauses-text decimal-in any-passes all-pass text-lines line-words words-of-lines said-on natural-of integer-of expect expect-number clause-word
-    take-word read-clauses read-number read-format read-problem
+unfolding upto clause-text clauses-text decimal-in any-passes all-pass text-lines line-words words-of-lines said-on natural-of integer-of expect expect-number
+    clause-word take-word read-clauses read-number read-format read-problem
 long-example = refl
 
 -- ---- frames

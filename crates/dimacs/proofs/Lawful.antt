@@ -14,7 +14,8 @@ use Rattle.rules.specs.Terms.{in-range, mentions, distinct, is-clause, null}
 use Rattle.rules.proofs.Lists.{by-cases, not-true, or-false, and-left, and-right, and-both, all-nil, all-cons, all-append, any-last}
 use Rattle.text.specs.Words.{TextWord}
 use Rattle.text_numbers.specs.Numbers.{integer-of}
-use Rattle.dimacs.specs.Reading.{Read, faulty, sound, is-p, literal-word, number-word, clause-word, take-word, preceded, read-clauses, Cnf, read-text, body-words}
+use Rattle.dimacs.specs.Reading.{Read, faulty, sound, is-p, literal-word, number-word, clause-word, take-word, preceded, read-clauses, Cnf, read-text}
+use Rattle.dimacs.specs.Reading.{body-words}
 use Rattle.dimacs.specs.declared.ClauseWord.{ClauseWord}
 use Rattle.dimacs.specs.declared.ClauseWord.the-variants.{Wrong, Closing, Literal}
 use Rattle.dimacs.specs.declared.TextFault.{TextFault}
@@ -77,7 +78,8 @@ begun-clause : {vars : ℕ} {c : List ℤ} → Begun vars c → is-clause vars c
 unfolding is-clause
 begun-clause {vars} {c} b = and-both (le-leb (length c) 256 (b .short)) (and-both (b .ranged) (b .once))
 
-begun-more : {vars : ℕ} {c : List ℤ} (l : ℤ) → Begun vars c → length c < 256 → in-range vars l ≡ true → mentions c (natAbs l) ≡ false → Begun vars (c ++ (l ∷ []))
+begun-more : {vars : ℕ} {c : List ℤ} (l : ℤ) → Begun vars c → length c < 256 → in-range vars l ≡ true → mentions c (natAbs l) ≡ false
+    → Begun vars (c ++ (l ∷ []))
 begun-more {vars} {c} l b h r m = record {
   short = omega (arith, length-append c (l ∷ []));
   ranged = all-append (in-range vars) c (l ∷ []) (b .ranged) (all-cons (in-range vars) l [] r (all-nil (in-range vars)));

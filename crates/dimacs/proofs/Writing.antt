@@ -94,7 +94,13 @@ module _ (vars end : ℕ) where
   clause-read bs r rest [] begun k first at =
       rw (number-line first at (pos 0) bs, word-number vars at first (decimal 0) (pos 0) (integer-signed (pos 0)), rest (at + 1 + 1), append-nil)
   clause-read bs r rest (l ∷ c) begun k first at =
-      rw (append-assoc, number-blank first at l (clause-text c ++ bs), next-word vars begun c l k at first, next-once vars begun c l k, next-short vars begun c l k)
+      rw (
+        append-assoc,
+        number-blank first at l (clause-text c ++ bs),
+        next-word vars begun c l k at first,
+        next-once vars begun c l k,
+        next-short vars begun c l k,
+      )
       (clause-read bs r rest c (begun ++ (l ∷ [])) (rw append-assoc k) false (at + length (signed-decimal l) + 1) ∙ rw append-assoc)
 
   clauses-read : (cs : List (List ℤ)) → all-pass (is-clause vars) cs ≡ true

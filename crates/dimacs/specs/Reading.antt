@@ -17,7 +17,8 @@ use Rattle.dimacs.specs.declared.TextFault.{TextFault}
 use Rattle.dimacs.specs.declared.TextFault.the-variants.{NoProblemLine, SecondProblemLine, MalformedWord, PastDeclared, VariableTwice, LongClause}
 use Rattle.dimacs.specs.declared.TextFault.the-variants.{VarsOutOfRange, UnclosedClause, WrongClauseCount}
 
--- ---- "each under its own number and with the byte position where the first faulty word starts .., the text's length for the last two or where no word is left"
+-- ---- "each under its own number and with the byte position where the first faulty word starts .., the text's length for the last two or where no word is
+-- left"
 
 -- In the order of "Refuse a missing or second problem line, any other malformed word, a literal past the declared count, a variable twice in a clause, a clause
 -- over 256 literals, a declared variable count outside 1 to 2,048, an unclosed clause and a wrong clause count".

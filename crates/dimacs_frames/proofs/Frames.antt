@@ -41,7 +41,8 @@ module _ (frame : List ℤ) (id : ℕ) where
   pub yield-none : (o : Option ClosedClause) → o ≡ none → (NoneLeft, frame) ≡ into frame (yield-clause id o)
   yield-none o e = rw e
 
-  module _ (n end : ℕ) (lits : List ℤ) (ws : List TextWord) (o : Option ClosedClause) (e : o ≡ some (record { lits = take n lits; behind = end; rest = ws })) where
+  module _ (n end : ℕ) (lits : List ℤ) (ws : List TextWord) (o : Option ClosedClause)
+      (e : o ≡ some (record { lits = take n lits; behind = end; rest = ws })) where
     pub yield-unnamed : 2147483647 ≤ id → (NoId, frame) ≡ into frame (yield-clause id o)
     yield-unnamed h = rw (e, le-ltb id 2147483647 h)
 

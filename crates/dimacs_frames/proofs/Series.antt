@@ -164,7 +164,8 @@ module _ (text : List ℕ) where
   ended : (c : Cursor) (r : Yield) → yields text c ≡ (r, []) → ((n : ℕ) (d : Cursor) → r ≡ Frame n d → ⊥) → Series text c [] r
   ended c r e last = no-frame buffer r buffer (ap (into buffer) (sym e) ∙ sym (enough text c buffer (omega arith))) (omega arith) last
 
-  more : (c : Cursor) (n : ℕ) (d : Cursor) (ws : List ℤ) → yields text c ≡ (Frame n d, ws) → {fs : List (List ℤ)} {r : Yield} → Series text d fs r → Series text c (ws ∷ fs) r
+  more : (c : Cursor) (n : ℕ) (d : Cursor) (ws : List ℤ) → yields text c ≡ (Frame n d, ws) → {fs : List (List ℤ)} {r : Yield} → Series text d fs r
+      → Series text c (ws ∷ fs) r
   more c n d ws e s =
       let call : (Frame n d, over buffer ws) ≡ yields-into text c buffer = ap (into buffer) (sym e) ∙ sym (enough text c buffer (omega arith)) in
       let words : take n (over buffer ws) ≡ ws = handed text c buffer (over buffer ws) n d call ∙ ap (λ (x : Yield × List ℤ). x .1) e in
@@ -187,7 +188,8 @@ module _ (text : List ℕ) where
 
   -- the clauses that are left
   module _ (vars : ℕ) (few : vars ≤ 2048) where
-    series-on : (cs : List (List ℤ)) (c : Cursor) (ws : List TextWord) → Before c ws → read-clauses vars (length text) [] ws ≡ sound cs → c .id + length cs ≤ 2147483647
+    series-on : (cs : List (List ℤ)) (c : Cursor) (ws : List TextWord) → Before c ws → read-clauses vars (length text) [] ws ≡ sound cs
+        → c .id + length cs ≤ 2147483647
         → Series text c (add-frames (c .id + 1) cs) NoneLeft
     unfolding add-frames next-clause
     series-on [] c ws b e h = ⊎-elim
@@ -202,7 +204,8 @@ module _ (text : List ℕ) where
         let first : l ≡ x .lits = cc in
         let rest : cs ≡ n .others = cc in
         let named = lt-ltb (c .id) 2147483647 (omega arith) in
-        let y : yields text c ≡ (Frame (2 + length l) (record { at = x .behind; id = c .id + 1 }), add-frame (c .id + 1) l) = b .0 ∙ rw (n .next, named, first) in
+        let y : yields text c ≡ (Frame (2 + length l) (record { at = x .behind; id = c .id + 1 }), add-frame (c .id + 1) l) = b .0
+        ∙ rw (n .next, named, first) in
         let next = behind (c .id) x (clause-behind text ws [] (b .1) (n .next)) in
         more c (2 + length l) _ _ y (series-on cs _ (x .rest) next (n .read ∙ ap sound (sym rest)) (omega arith)))
         (clause-next vars (length text) few ws [] (l ∷ cs) e)

@@ -43,8 +43,8 @@ yields-into text c frame = cond (ltb (length frame) 258) (NoBuffer, frame) (into
 
 -- ---- in numbers
 
--- a frame is 0 and so many words; 0 and no word where no clause is left; 1 for a buffer of too few words; 4 and the id that there is not for a clause behind the
--- last id
+-- a frame is 0 and so many words; 0 and no word where no clause is left; 1 for a buffer of too few words; 4 and the id that there is not for a clause behind
+-- the last id
 abbrev pub yield-numbers : Yield → ℕ × ℕ
 yield-numbers (Frame n c) = (0, n)
 yield-numbers NoneLeft = (0, 0)

@@ -141,7 +141,8 @@ module _ {all : Bool} {text : List ℕ} {from vars : ℕ} {stamps₀ stamps : Li
         begun : null (take n lits) ≡ false
         begun = some-literal (take n lits) (omega (arith, as-long))
 
-        of : (all : Bool) → ModeScanning all text from vars stamps stamp (take n lits) i → ScanTold all text from vars lits′ (Broken (UnclosedClause (length text)))
+        of : (all : Bool) → ModeScanning all text from vars stamps stamp (take n lits) i
+            → ScanTold all text from vars lits′ (Broken (UnclosedClause (length text)))
         of true m = m .read ∙ rw (e, begun) (before-faulty (m .closed) (UnclosedClause (length text)))
         of false m = m .next ∙ rw e
 
@@ -190,7 +191,8 @@ module _ {all : Bool} {text : List ℕ} {from vars : ℕ} {stamps₀ stamps : Li
 
       pub scan-past : vars < w .read .value → (lits′ : List ℤ) → ScanTold all text from vars lits′ (Broken (PastDeclared (w .at)))
       scan-past h lits′ =
-          scan-wrong number-inside lits′ (word-past vars (w .at) (w .first) (word-at (w .at) text) (w .read .minus) (told .0) (told .1) (omega (arith, told .2)))
+          scan-wrong number-inside lits′
+          (word-past vars (w .at) (w .first) (word-at (w .at) text) (w .read .minus) (told .0) (told .1) (omega (arith, told .2)))
 
       -- ---- within V
 
@@ -203,7 +205,8 @@ module _ {all : Bool} {text : List ℕ} {from vars : ℕ} {stamps₀ stamps : Li
 
         literal : (w .read .value ≡ 0 → ⊥) → clause-word vars next ≡ Literal l
         literal z =
-            let q = word-literal vars (w .at) (w .first) (word-at (w .at) text) (w .read .minus) (told .0) (told .1) (λ y. z (told .2 ∙ y)) (omega (arith, told .2)) few in
+            let q = word-literal vars (w .at) (w .first) (word-at (w .at) text) (w .read .minus) (told .0) (told .1) (λ y. z (told .2 ∙ y))
+            (omega (arith, told .2)) few in
             q ∙ ap (λ (k : ℕ). Literal (with-sign (w .read .minus) k)) (sym (told .2))
 
         -- in a clause of all: the variable is in it already, so it is no 0
@@ -212,14 +215,16 @@ module _ {all : Bool} {text : List ℕ} {from vars : ℕ} {stamps₀ stamps : Li
         unfolding read-clauses take-word expect
         twice m q =
             let some-value : w .read .value ≡ 0 → ⊥ = λ z. true-false q (ap (λ (k : ℕ). eqb (getD stamps k 0) stamp) z ∙ zero-unstamped (m .stamped)) in
-            let again : mentions (take n lits) (natAbs l) ≡ true = rw (sign-abs (w .read .minus) (w .read .value)) (sym (m .stamped .same (w .read .value) (omega (arith, some-value)) (omega arith)) ∙ q) in
+            let again : mentions (take n lits) (natAbs l) ≡ true =
+            rw (sign-abs (w .read .minus) (w .read .value)) (sym (m .stamped .same (w .read .value) (omega (arith, some-value)) (omega arith)) ∙ q) in
             m .read ∙ rw (t .next number-inside, literal some-value, again) (before-faulty (m .closed) (VariableTwice (w .at)))
 
         pub scan-twice : (stamps′ : List ℕ) (lits′ : List ℤ) → all ≡ true → StopsTold all stamps (w .read .value) stamp true stamps′
             → ScanTold all text from vars lits′ (Broken (VariableTwice (w .at)))
         scan-twice stamps′ lits′ = of all (s .mode)
           where
-            of : (all : Bool) → ModeScanning all text from vars stamps stamp (take n lits) i → all ≡ true → StopsTold all stamps (w .read .value) stamp true stamps′
+            of : (all : Bool) → ModeScanning all text from vars stamps stamp (take n lits) i → all ≡ true
+                → StopsTold all stamps (w .read .value) stamp true stamps′
                 → ScanTold all text from vars lits′ (Broken (VariableTwice (w .at)))
             of true m a q = twice m (sym (q .told))
             of false m a q = true-false a refl
@@ -230,7 +235,8 @@ module _ {all : Bool} {text : List ℕ} {from vars : ℕ} {stamps₀ stamps : Li
         unfolding next-clause
         scan-closed stamps′ = of all (s .mode)
           where
-            of : (all : Bool) → ModeScanning all text from vars stamps stamp (take n lits) i → all ≡ false → StopsTold all stamps (w .read .value) stamp true stamps′
+            of : (all : Bool) → ModeScanning all text from vars stamps stamp (take n lits) i → all ≡ false
+                → StopsTold all stamps (w .read .value) stamp true stamps′
                 → ScanTold all text from vars lits (Closed n (w .read .end))
             of true m a q = true-false refl a
             of false m a q =
@@ -296,7 +302,8 @@ module _ {all : Bool} {text : List ℕ} {from vars : ℕ} {stamps₀ stamps : Li
                 closed = m .closed ++ (take n lits ∷ []);
                 many = omega (arith, m .many, length-append (m .closed) (take n lits ∷ []));
                 stamped = rw (q .stamped refl, z) (stamped-next (m .stamped));
-                read = m .read ∙ rw (t .next number-inside, closing z, told .3) (sym (before-snoc (m .closed) (take n lits) (read-clauses vars (length text) [] (words-from false behind text))));
+                read = m .read ∙ rw (t .next number-inside, closing z, told .3)
+                    (sym (before-snoc (m .closed) (take n lits) (read-clauses vars (length text) [] (words-from false behind text))));
               }
               of false m q = true-false (eq-eqb (w .read .value) 0 z) (sym (q .0))
 

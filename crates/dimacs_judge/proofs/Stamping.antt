@@ -71,10 +71,12 @@ module _ {stamps : List ℕ} {stamp : ℕ} {c : List ℤ} (s : Stamped stamps st
       of : (u : ℕ) → 0 < u → u ≤ 2048 → Dec (u ≡ natAbs l) → eqb (getD (set stamps (natAbs l) stamp) u 0) stamp ≡ mentions (c ++ (l ∷ [])) u
       of u low′ high′ (yes e) =
           let q : eqb (natAbs l) u ≡ true = eq-eqb (natAbs l) u (sym e) in
-          eq-eqb (getD (set stamps (natAbs l) stamp) u 0) stamp (after (natAbs l) (omega arith) u .0 e) ∙ sym (any-last (λ m. eqb (natAbs m) u) c l ∙ or-right (mentions c u) (eqb (natAbs l) u) q)
+          eq-eqb (getD (set stamps (natAbs l) stamp) u 0) stamp (after (natAbs l) (omega arith) u .0 e)
+          ∙ sym (any-last (λ m. eqb (natAbs m) u) c l ∙ or-right (mentions c u) (eqb (natAbs l) u) q)
       of u low′ high′ (no e) =
           let q : eqb (natAbs l) u ≡ false = ne-eqb (natAbs l) u (λ r. e (sym r)) in
-          ap (λ (k : ℕ). eqb k stamp) (after (natAbs l) (omega arith) u .1 e) ∙ s .same u low′ high′ ∙ sym (any-last (λ m. eqb (natAbs m) u) c l ∙ ap (λ (b : Bool). mentions c u || b) q ∙ or-false (mentions c u))
+          ap (λ (k : ℕ). eqb k stamp) (after (natAbs l) (omega arith) u .1 e) ∙ s .same u low′ high′
+          ∙ sym (any-last (λ m. eqb (natAbs m) u) c l ∙ ap (λ (b : Bool). mentions c u || b) q ∙ or-false (mentions c u))
 
   -- the clause is closed, and the next has the next stamp
   pub stamped-next : Stamped (set stamps 0 stamp) (stamp + 1) []

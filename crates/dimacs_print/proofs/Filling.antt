@@ -60,7 +60,8 @@ module _ {text : List ℕ} {c : Cursor} {out : List ℕ} {d : Cursor} {out′ : 
   going-end r q h none = record { frames = g .frames; series = leads-end (g .frames) (g .leads) (no-frame frame r frame′ q h none); lines = g .lines }
 
 -- some line was put: the ids have risen
-pub going-on : {text : List ℕ} {c : Cursor} {out : List ℕ} {d : Cursor} {out′ : List ℕ} {at : ℕ} → Going text c out d out′ at → 0 < at → PrintedOn text c d out out′ at
+pub going-on : {text : List ℕ} {c : Cursor} {out : List ℕ} {d : Cursor} {out′ : List ℕ} {at : ℕ} → Going text c out d out′ at → 0 < at
+    → PrintedOn text c d out out′ at
 unfolding frame-lines
 going-on {text} {c} {out} {d} {out′} {at} g h =
     let some = some-frame (g .frames) (g .lines .place) in

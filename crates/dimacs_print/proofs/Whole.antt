@@ -20,7 +20,8 @@ unfolding frame-lines
 lines-both [] gs = refl
 lines-both (f ∷ fs) gs = ap (λ (l : List ℕ). frame-line f ++ l) (lines-both fs gs) ∙ sym (append-assoc (frame-line f) (frame-lines fs) (frame-lines gs))
 
-printed-series : {text : List ℕ} {c : Cursor} {bs : List ℕ} {told : Yield} → Prints text c bs told → (fs : List (List ℤ)) × (bs ≡ frame-lines fs) × Series text c fs told
+printed-series : {text : List ℕ} {c : Cursor} {bs : List ℕ} {told : Yield} → Prints text c bs told
+    → (fs : List (List ℤ)) × (bs ≡ frame-lines fs) × Series text c fs told
 printed-series (printed-last out out′ at p) = (p .frames, p .lines .bytes, p .series)
 printed-series (printed-more out out′ at d p rest) =
     let (gs, same, series) = printed-series rest in
@@ -28,7 +29,8 @@ printed-series (printed-more out out′ at d p rest) =
 
 module _ (text : List ℕ) (c : Cursor) (fresh : c .id ≡ 0) {bs : List ℕ} {told : Yield} (p : Prints text c bs told) where
   -- of a text without fault all lines are put, and then none is left
-  pub lines-of-a-text : (x : Cnf) → read-text text ≡ sound x → length (x .clauses) ≤ 2147483647 → (bs ≡ frame-lines (frames-of (read-text text))) × (told ≡ NoneLeft)
+  pub lines-of-a-text : (x : Cnf) → read-text text ≡ sound x → length (x .clauses) ≤ 2147483647
+      → (bs ≡ frame-lines (frames-of (read-text text))) × (told ≡ NoneLeft)
   lines-of-a-text x e h =
       let (fs, same, series) = printed-series p in
       let (all, none-left) = frames-handed-out text c fresh x e h series in

@@ -6,8 +6,8 @@ ghost use Rattle.dimacs_print.specs.Printed.{Filling};
 use dimacs_frames::Cursor;
 use dimacs_frames::Yield;
 
-// The lines stand in the buffer before a place. Either it has no room for one more longest line, and the text goes on behind the cursor; or the last call handed
-// out no frame, and told why.
+// The lines stand in the buffer before a place. Either it has no room for one more longest line, and the text goes on behind the cursor; or the last call
+// handed out no frame, and told why.
 pub enum Filled {
     More(usize, Cursor),
     Ended(usize, Yield),

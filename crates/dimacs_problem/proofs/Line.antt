@@ -82,19 +82,23 @@ module _ (text : List ℕ) where
     behind : read-count vars (length text) ws ≡ counted vars (c .number) (length text) (read-behind vars (length text) (words-from false end text))
     behind = c .read-on (λ at n rest. counted vars n (length text) (read-behind vars (length text) rest))
 
-    pub fifth-word : w .at < length text → w .first ≡ false → ProblemTold text (drop 1 ws) (read-count vars (length text) ws) (Undeclared (MalformedWord (w .at)))
+    pub fifth-word : w .at < length text → w .first ≡ false
+        → ProblemTold text (drop 1 ws) (read-count vars (length text) ws) (Undeclared (MalformedWord (w .at)))
     unfolding expect
     fifth-word h f = behind ∙ rw (one-found false end w s h, f)
 
-    last-word : (w .at < length text → w .first ≡ true) → read-behind vars (length text) (words-from false end text) ≡ read-clauses vars (length text) [] (words-from false end text)
+    last-word : (w .at < length text → w .first ≡ true)
+        → read-behind vars (length text) (words-from false end text) ≡ read-clauses vars (length text) [] (words-from false end text)
     unfolding expect
     last-word f = of (decLt (w .at) (length text))
       where
-        of : Dec (w .at < length text) → read-behind vars (length text) (words-from false end text) ≡ read-clauses vars (length text) [] (words-from false end text)
+        of : Dec (w .at < length text)
+            → read-behind vars (length text) (words-from false end text) ≡ read-clauses vars (length text) [] (words-from false end text)
         of (yes h) = rw (one-found false end w s h, f h)
         of (no h) = rw (none-left false end w s (omega arith))
 
-    pub line-ended : 1 ≤ vars → vars ≤ 2048 → (w .at < length text → w .first ≡ true) → ProblemTold text (drop 1 ws) (read-count vars (length text) ws) (Declared vars v end)
+    pub line-ended : 1 ≤ vars → vars ≤ 2048 → (w .at < length text → w .first ≡ true)
+        → ProblemTold text (drop 1 ws) (read-count vars (length text) ws) (Declared vars v end)
     line-ended low high f = record {
       number = c .number;
       told = c .told;

@@ -8,13 +8,14 @@ use lib.Dec.{eqb, ltb}
 use lib.IntN.{ℤ}
 use borrow.Author.Tests.{eqb-true, le-ltb, ne-eqb}
 use Rattle.rules.specs.Lists.{any-passes, only}
-use Rattle.rules.specs.Terms.{Held}
+use Rattle.rules.specs.Terms.{Held, fetch}
 use Rattle.rules.specs.Frames.{without}
 use Rattle.rules.specs.Propagation.{Named, nobody, clause, among}
 use Rattle.rules.proofs.Lists.{by-cases}
 use Rattle.table.specs.Facts.{All, none, both, ahead}
-use Rattle.table.specs.Spelled.{Row, id-of, place-of, held, stands, clauses, Rising, Readable}
+use Rattle.table.specs.Spelled.{Row, id-of, place-of, held, stands, clauses, Rising, Listed, Readable}
 use Rattle.table.proofs.Facts.{all-more, all-indexed}
+use Rattle.table.proofs.Stacked.{listed-among}
 use Rattle.judge_propagate.specs.Scope.{all-clauses, irredundant-but, permits, allowed-of}
 use Rattle.judge_propagate.specs.declared.Scope.{Scope}
 use Rattle.judge_propagate.proofs.Allowed.{among-cons, through, through-past, through-here}
@@ -24,7 +25,7 @@ unfolding only
 only-same none = refl
 only-same {p} {q} (both {x} {xs} e a) = let t : only p xs ≡ only q xs = only-same a in rw (e, t)
 
--- ---- LEARN and UNSAT: irredundant and learned clauses
+-- ---- LEARN and UNSAT: the clauses of all three places
 
 abbrev first : Named → Named → Named
 first nobody w = w
@@ -46,21 +47,33 @@ module _ (p q : Row → Bool) (pool : List ℤ) where
       (by-cases (p r) (λ t. rw t) (λ f. rw f)))
       (λ e. rw (through-past p pool r rows i e, through-past q pool r rows i e, through-past (λ x. p x || q x) pool r rows i e) (merged rows i up))
 
-below-two : (n : ℕ) → (eqb n 0 || eqb n 1) ≡ ltb n 2
-below-two zero = refl
-below-two (suc zero) = refl
-below-two (suc (suc n)) = rw (ne-eqb (suc (suc n)) 0 (λ e. omega arith), ne-eqb (suc (suc n)) 1 (λ e. omega arith), le-ltb (suc (suc n)) 2 (omega arith))
+below-three : (n : ℕ) → (eqb n 0 || (eqb n 1 || eqb n 2)) ≡ ltb n 3
+below-three zero = refl
+below-three (suc zero) = refl
+below-three (suc (suc zero)) = refl
+below-three (suc (suc (suc n))) =
+    let m = suc (suc (suc n)) in rw (ne-eqb m 0 (λ e. omega arith), ne-eqb m 1 (λ e. omega arith), ne-eqb m 2 (λ e. omega arith), le-ltb m 3 (omega arith))
 
-pub allows-all : {scope : Scope} {rows : List Row} {pool : List ℤ} → scope ≡ all-clauses → Readable rows pool →
-    allowed-of scope pool rows ≡ among (clauses 0 pool rows ++ clauses 1 pool rows)
+-- the scope lets the rows of the three places through, and no others
+three-places : {rows : List Row} {pool : List ℤ} → Readable rows pool
+    → only (permits all-clauses) rows ≡ only (λ r. stands 0 r || (stands 1 r || stands 2 r)) rows
+three-places {rows} t = only-same
+    (all-more (λ r (h : 0 < id-of r). rw (below-three (place-of r), ne-eqb (id-of r) 0 (λ (z : id-of r ≡ 0). omega arith), and-true (ltb (place-of r) 3)))
+    (all-indexed rows [] (t .positive)))
+
+-- where the stack lists the stacked clauses, they are named among its records
+pub allows-all : {scope : Scope} {rows : List Row} {pool : List ℤ} {ids : List ℕ} → scope ≡ all-clauses → Readable rows pool
+    → Listed (clauses 2 pool rows) ids →
+    allowed-of scope pool rows ≡ among (clauses 0 pool rows ++ (clauses 1 pool rows ++ map (fetch (clauses 2 pool rows)) ids))
 unfolding allowed-of
-allows-all {scope} {rows} {pool} q t =
-    let e : only (permits all-clauses) rows ≡ only (λ r. stands 0 r || stands 1 r) rows =
-    only-same
-    (all-more (λ r (h : 0 < id-of r). rw (below-two (place-of r), ne-eqb (id-of r) 0 (λ (z : id-of r ≡ 0). omega arith), and-true (ltb (place-of r) 2)))
-    (all-indexed rows [] (t .positive))) in
-    rw q (fun-ext (λ i. ap (λ rs. among (map (held pool) rs) i) e ∙ sym (merged (stands 0) (stands 1) pool rows i (t .rising))
-    ∙ sym (among-append (clauses 0 pool rows) (clauses 1 pool rows) i)))
+allows-all {scope} {rows} {pool} {ids} q t l =
+    let records = map (fetch (clauses 2 pool rows)) ids in
+    rw q (fun-ext (λ i. ap (λ rs. among (map (held pool) rs) i) (three-places t)
+    ∙ sym (merged (stands 0) (λ r. stands 1 r || stands 2 r) pool rows i (t .rising))
+    ∙ ap (first (among (clauses 0 pool rows) i))
+    (sym (merged (stands 1) (stands 2) pool rows i (t .rising)) ∙ ap (first (among (clauses 1 pool rows) i)) (sym (listed-among l i))
+    ∙ sym (among-append (clauses 1 pool rows) records i))
+    ∙ sym (among-append (clauses 0 pool rows) (clauses 1 pool rows ++ records) i)))
 
 -- ---- DROP and WEAKEN: the irredundant clauses but one
 

@@ -15,9 +15,9 @@ use Rattle.table.specs.declared.Found.the-variants.{At, Nothing}
 use Rattle.judge_propagate.specs.declared.Scope.{Scope}
 use Rattle.judge_propagate.specs.declared.Propagated.{Propagated}
 
--- LEARN's and UNSAT's: the irredundant and the learned clauses
+-- LEARN's and UNSAT's: the clauses of all three places
 abbrev pub all-clauses : Scope
-all-clauses = record { places = 2; except = 0 }
+all-clauses = record { places = 3; except = 0 }
 
 -- DROP's, and that of WEAKEN's groups: the irredundant clauses other than that of the id
 abbrev pub irredundant-but : ℕ → Scope

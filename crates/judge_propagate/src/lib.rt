@@ -15,12 +15,12 @@ pub struct Scope {
     pub except: u32,
 }
 
-// LEARN's and UNSAT's: the irredundant and the learned clauses. No clause has the id 0.
+// LEARN's and UNSAT's: the clauses of all three places. No clause has the id 0.
 pub fn all_clauses() -> Scope
     ensures { λ r. ⌜ r ≡ all-clauses ⌝ }
 {
     Scope {
-        places: 2,
+        places: 3,
         except: 0,
     }
 }

@@ -102,7 +102,8 @@ frame-told NoBuffer c t m f = absurd (omega arith)
 frame-told NoId c t m f = absurd (omega arith)
 
 -- a series of the archive's calls is one of the calls that they export
-series-of : {text : List ℕ} {c : Cursor} {fs : List (List ℤ)} {r : Numbers} → NextSeries text c fs r → (y : Yield) × Series text c fs y × Told (yield-numbers y) r
+series-of : {text : List ℕ} {c : Cursor} {fs : List (List ℤ)} {r : Numbers} → NextSeries text c fs r
+    → (y : Yield) × Series text c fs y × Told (yield-numbers y) r
 series-of {text} {c} (last-call {c′} {frame} {frame′} {r} e h unframed) =
     let y = yields-into text c frame .0 in (
       y,

@@ -35,5 +35,6 @@ FrameTold r = (r .code ≡ 0) × (0 < r .detail)
 pub data NextSeries (text : List ℕ) : Cursor → List (List ℤ) → Numbers → Type 0 where
   last-call : {c c′ : Cursor} {frame frame′ : List ℤ} {r : Numbers} → NextExported text c frame r c′ frame′ → 258 ≤ length frame → (FrameTold r → ⊥)
       → NextSeries text c [] r
-  first-call : {c c′ : Cursor} {frame frame′ : List ℤ} {r : Numbers} → NextExported text c frame r c′ frame′ → FrameTold r → {fs : List (List ℤ)} {last : Numbers}
+  first-call : {c c′ : Cursor} {frame frame′ : List ℤ} {r : Numbers} → NextExported text c frame r c′ frame′ → FrameTold r
+      → {fs : List (List ℤ)} {last : Numbers}
       → NextSeries text c′ fs last → NextSeries text c (take (r .detail) frame′ ∷ fs) last

@@ -36,7 +36,8 @@ hex-value (suc k) n xs ys =
     let one : 1 + k ≡ suc k = omega arith in
     let next : length (xs ++ (glyph d ∷ [])) ≡ length xs + 1 = length-append xs (glyph d ∷ []) in
     let first : value-at l (length xs) 1 ≡ d =
-    zero-add (digit (getD l (length xs + 0) 0)) ∙ ap (λ i. digit (getD l i 0)) (add-zero (length xs)) ∙ ap digit (getD-append-seam xs (glyph d) rest 0) ∙ glyph-digit d (omega arith) in
+    zero-add (digit (getD l (length xs + 0) 0)) ∙ ap (λ i. digit (getD l i 0)) (add-zero (length xs)) ∙ ap digit (getD-append-seam xs (glyph d) rest 0)
+    ∙ glyph-digit d (omega arith) in
     let others : value-at l (length xs + 1) k ≡ n % 16 ^ k =
     ap₂ (λ m i. value-at m i k) (sym (append-assoc xs (glyph d ∷ []) rest)) (sym next) ∙ hex-value k n (xs ++ (glyph d ∷ [])) ys in
     ap (value-at l (length xs)) (sym one)

@@ -5,7 +5,7 @@ use mathlib.Core.List.{List, [], _∷_, _++_, map}
 use Prim.Native.Nat.{ℕ, _+_}
 use lib.IntN.{ℤ, negℤ}
 use lib.ListN.{length, take, drop}
-use Rattle.rules.specs.Terms.{Literals, Assignment, Held, State, fetch}
+use Rattle.rules.specs.Terms.{Literals, Assignment, Held, State, fetch, everything}
 use Rattle.rules.specs.Propagation.{Allowed, among, proves}
 use Rattle.rules.specs.Frames.{Frame, ADD, LEARN, FORGET, PROMOTE, DROP, WEAKEN, RESTORE, SAT, UNSAT, Parsed, malformed, framed, parse, number, without}
 use Rattle.rules.specs.Frames.{target}
@@ -110,7 +110,7 @@ checks s (ADD i c) =
 checks s (LEARN i c hints) =
     both _ _ (flaws (s .vars) _ 3 c)
     (both _ _ (needs _ (Id i) refl)
-    (both _ _ (needs _ NoEntry refl) (both _ _ (needs _ NoWords refl) (decides (3 + length c) 0 (proves (among (s .irredundant ++ s .learned)) c hints)))))
+    (both _ _ (needs _ NoEntry refl) (both _ _ (needs _ NoWords refl) (decides (3 + length c) 0 (proves (among (everything s)) c hints)))))
 checks s (FORGET i) = needs _ (Id i) refl
 checks s (PROMOTE i) = needs _ (Id i) refl
 checks s (DROP i hints) = both _ _ (needs _ (Id i) refl) (decides 2 0 (proves (among (without (s .irredundant) i)) (fetch (s .irredundant) i .lits) hints))
@@ -123,7 +123,7 @@ checks s (SAT assumed vs) =
     (both _ _ (ascends (s .vars) 0 (2 + length assumed) vs)
     (both _ _ (assumes _ 2 assumed) (both _ _ (cleans assumed (s .stack)) (satisfies _ (s .irredundant)))))
 checks s (UNSAT assumed hints) =
-    both _ _ (ranges (s .vars) 2 assumed) (decides (2 + length assumed) 0 (proves (among (s .irredundant ++ s .learned)) (map negℤ assumed) hints))
+    both _ _ (ranges (s .vars) 2 assumed) (decides (2 + length assumed) 0 (proves (among (everything s)) (map negℤ assumed) hints))
 
 abbrev answered : Answer → Bool
 answered (Accepted n) = false

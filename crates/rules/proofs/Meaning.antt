@@ -20,7 +20,7 @@ use Rattle.rules.proofs.Literals.{in-holds, holds-in, opposite-false}
 use Rattle.rules.proofs.Held.{meets, mend-keeps, mend-other, mend-models}
 use Rattle.rules.proofs.Checks.{then-left, then-right, cleanly-clean, satisfied-models, assumed-assumes}
 use Rattle.rules.proofs.Reaching.{of-reached}
-use Rattle.rules.proofs.Sound.{Sound, keeps-sound, begins-sound, decided-sound}
+use Rattle.rules.proofs.Sound.{Sound, held-follow, keeps-sound, begins-sound, decided-sound}
 use Rattle.rules.proofs.Shaped.{shaped}
 use Rattle.rules.proofs.Kept.{terms-kept, begins-terms}
 use Rattle.rules.proofs.Past.{handed-none}
@@ -32,7 +32,7 @@ pub terms : (h : History) → Reached h → Terms (h .state)
 terms = of-reached (λ h. Terms (h .state)) begins-terms (λ h ws f q e T. terms-kept (h .state) f (shaped ws f q) T e)
 
 pub follow : (h : History) → Reached h → (α : Assignment) → Models α (h .added) → models α (everything (h .state)) ≡ true
-follow h r α m = let S = sound h r in all-append (meets α) _ _ (S .irredundant α m) (all-append (meets α) _ _ (S .learned α m) (S .stacked α m))
+follow h r α m = held-follow (sound h r) α m
 
 pub mend-to-models : (h : History) → Reached h → (α : Assignment) → models α (h .state .irredundant) ≡ true → Models (mend α (h .state .stack)) (h .added)
 mend-to-models h r = sound h r .mends
@@ -95,7 +95,7 @@ unfolding check
 unsat-means h r ws assumed hints a α m k =
     let S = sound h r in
     let e = then-right _ _ (passed (h .state) ws (UNSAT assumed hints) a) in
-    one-fails α assumed (decided-sound α _ (map negℤ assumed) hints _ _ (all-append (meets α) _ _ (S .irredundant α m) (S .learned α m)) e) k
+    one-fails α assumed (decided-sound α _ (map negℤ assumed) hints _ _ (held-follow S α m) e) k
 
 -- ---- the same models
 

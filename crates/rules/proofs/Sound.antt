@@ -7,7 +7,7 @@ use Prim.Native.Nat.{ℕ, _+_}
 use lib.IntN.{ℤ}
 use lib.ListN.{take}
 use Rattle.rules.specs.Lists.{any-passes, all-pass, only}
-use Rattle.rules.specs.Terms.{Literals, holds, opposes, Assignment, lit, sat, Held, fetch}
+use Rattle.rules.specs.Terms.{Literals, holds, opposes, Assignment, lit, sat, Held, fetch, everything}
 use Rattle.rules.specs.Propagation.{among, proves}
 use Rattle.rules.specs.Frames.{Frame, ADD, LEARN, FORGET, PROMOTE, DROP, WEAKEN, RESTORE, SAT, UNSAT, number, without, needs-group, target, make, repair}
 use Rattle.rules.specs.Frames.{mend}
@@ -85,6 +85,10 @@ pub record Sound (h : History) : Type 0 where
   pub stacked : (α : Assignment) → Models α (h .added) → models α (h .state .stack) ≡ true
   pub mends : (α : Assignment) → models α (h .state .irredundant) ≡ true → Models (mend α (h .state .stack)) (h .added)
 
+-- so every held clause follows from the added ones, whatever its place
+pub held-follow : {h : History} → Sound h → (α : Assignment) → Models α (h .added) → models α (everything (h .state)) ≡ true
+held-follow S α m = all-append (meets α) _ _ (S .irredundant α m) (all-append (meets α) _ _ (S .learned α m) (S .stacked α m))
+
 pub keeps-sound : (h : History) (f : Frame) → Sound h → check (h .state) f ≡ Passed → Sound (moved h f)
 unfolding check mend
 keeps-sound h (ADD i c) S e =
@@ -99,8 +103,7 @@ keeps-sound h (LEARN i c hints) S e =
     let p = then-right _ _ (then-right _ _ (then-right _ _ (then-right _ _ e))) in
     record {
       irredundant = S .irredundant;
-      learned = λ α m.
-          place-all (meets α) _ _ (decided-sound α _ c hints _ _ (all-append (meets α) _ _ (S .irredundant α m) (S .learned α m)) p) (S .learned α m);
+      learned = λ α m. place-all (meets α) _ _ (decided-sound α _ c hints _ _ (held-follow S α m) p) (S .learned α m);
       stacked = S .stacked;
       mends = S .mends;
     }

@@ -145,14 +145,14 @@ check-add s i c =
     free-entry s then
     free-words s (length c)
 
--- "LEARN 12, 13, 7 or 8"
+-- "LEARN 12, 13, 7 or 8". Document 02, request 2: "A stacked clause follows from what was added, so LEARN and UNSAT may name it as a hint from now on."
 abbrev pub check-learn : State → ℕ → List ℤ → List ℤ → Check
 check-learn s i c hints =
     flaw (s .vars) unseen 3 c then
     new-id s i then
     free-entry s then
     free-words s (length c) then
-    decided (3 + length c) 0 (proves (among (s .irredundant ++ s .learned)) c hints)
+    decided (3 + length c) 0 (proves (among (everything s)) c hints)
 
 -- "DROP 7 or 8": "proved from the *other* irredundant clauses"
 abbrev pub check-drop : State → ℕ → List ℤ → Check
@@ -186,11 +186,11 @@ check-sat s assumed vs =
     cleanly assumed (s .stack) then
     satisfied (offered vs) (s .irredundant)
 
--- "UNSAT 7 or 8": "the opposites of the assumptions, as target, proved from irredundant and learned"
+-- "UNSAT 7 or 8": "the opposites of the assumptions, as target, proved from irredundant and learned"; since request 2 from stacked clauses too
 abbrev pub check-unsat : State → List ℤ → List ℤ → Check
 check-unsat s assumed hints =
     ranged (s .vars) 2 assumed then
-    decided (2 + length assumed) 0 (proves (among (s .irredundant ++ s .learned)) (map negℤ assumed) hints)
+    decided (2 + length assumed) 0 (proves (among (everything s)) (map negℤ assumed) hints)
 
 unfoldable pub check : State → Frame → Check
 check s (ADD i c) = check-add s i c

@@ -9,6 +9,7 @@ use borrow.Author.Tests.{eqb-true, eq-eqb, ne-eqb}
 use Rattle.rules.specs.Lists.{any-passes}
 use Rattle.rules.specs.Terms.{Held, has, fetch, tally}
 use Rattle.rules.specs.Frames.{without}
+use Rattle.rules.specs.Propagation.{among}
 use Rattle.rules.proofs.Lists.{by-cases, true-false}
 use Rattle.rules.proofs.Places.{fetch-id}
 use Rattle.table.specs.Facts.{All, none, both, Pairs, alone, ahead}
@@ -75,6 +76,11 @@ module _ {stacked : List Held} {ids : List ℕ} (l : Listed stacked ids) where
 
   pub listed-fetch : (i : ℕ) → has stacked i ≡ true → fetch (map (fetch stacked) ids) i ≡ fetch stacked i
   listed-fetch i h = fetch-named (fetch stacked) ids i listed-named (listed-has i ∙ h)
+
+  -- so an id names the same among the records
+  pub listed-among : (i : ℕ) → among (map (fetch stacked) ids) i ≡ among stacked i
+  unfolding among
+  listed-among i = by-cases (has stacked i) (λ e. rw (listed-has i, e, listed-fetch i e)) (λ e. rw (listed-has i, e))
 
 -- ---- a stacked entry among others
 

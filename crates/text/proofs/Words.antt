@@ -99,7 +99,8 @@ unfolding words-on line-rest line-words word-bytes lines-behind
 on-word first at b bs h =
     let n : at + 1 + length (word-bytes bs) ≡ at + suc (length (word-bytes bs)) = omega arith in
     rw (h, unblank b h, h, lines-behind-word bs (at + 1), n)
-    (ap (λ (l : List TextWord). l ++ words-of-lines (lines-behind (at + suc (length (word-bytes bs))) (drop (length (word-bytes bs)) bs))) (line-word bs [] first at b))
+    (ap (λ (l : List TextWord). l ++ words-of-lines (lines-behind (at + suc (length (word-bytes bs))) (drop (length (word-bytes bs)) bs)))
+    (line-word bs [] first at b))
 
 -- the lines behind bytes that close none
 behind-passed : (xs ys : List ℕ) (at : ℕ) → all-pass goes-on xs ≡ true → lines-behind at (xs ++ ys) ≡ lines-behind (at + length xs) ys
@@ -182,7 +183,8 @@ module _ (text : List ℕ) where
     words-word b =
         let n = length (word-at at text) in
         on-here ∙ on-word first at (getD text at 0) (drop (at + 1) text) b
-        ∙ ap (λ (l : List ℕ). record { at = at; first = first; bytes = word-bytes l } ∷ words-on false (at + length (word-bytes l)) (drop (length (word-bytes l)) l))
+        ∙ ap (λ (l : List ℕ). record { at = at; first = first; bytes = word-bytes l } ∷
+        words-on false (at + length (word-bytes l)) (drop (length (word-bytes l)) l))
         (sym (from-index text at 0 h))
         ∙ ap (λ (l : List ℕ). record { at = at; first = first; bytes = word-at at text } ∷ words-on false (at + n) l) (drop-drop n at text)
         ∙ ap (λ (l : List TextWord). record { at = at; first = first; bytes = word-at at text } ∷ l) (sym (on-is false (at + n) (drop (at + n) text)))

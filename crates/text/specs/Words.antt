@@ -1,5 +1,5 @@
--- A text of any bytes, as lines and as words. Nothing here knows what they say. What a branch needs alone is bound by `let`, so that the prover, when it computes
--- with a text, takes one branch at each byte.
+-- A text of any bytes, as lines and as words. Nothing here knows what they say. What a branch needs alone is bound by `let`, so that the prover, when it
+-- computes with a text, takes one branch at each byte.
 use mathlib.Core.Bool.{Bool, true, false, cond, _||_}
 use mathlib.Core.List.{List, [], _∷_, _++_}
 use Prim.Native.Nat.{ℕ, _+_}

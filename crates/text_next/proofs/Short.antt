@@ -110,5 +110,6 @@ module _ (text : List ℕ) (at x n : ℕ) (room : at + 8 ≤ length text) (bytes
       number = λ t.
           let b = and-left (is-blank (getD text (at + n) 0)) (leb sign v) t in
           let d = all-digits (x + 3 * sign) bits e n some-byte few place l a (plain-front sign o) in
-          plain-told text at (omega arith) (λ z. eqb-false (x % 256) 45 m (first-byte ∙ z)) (short-numeral 0 at (omega arith) d b (λ z. omega arith)) .number refl;
+          plain-told text at (omega arith) (λ z. eqb-false (x % 256) 45 m (first-byte ∙ z))
+          (short-numeral 0 at (omega arith) d b (λ z. omega arith)) .number refl;
     }

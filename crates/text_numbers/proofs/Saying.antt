@@ -109,7 +109,8 @@ module _ (text : List ℕ) (at v end : ℕ) (d : Saying text at v end) where
     unfolding natural-of
     no-digit e = by-cases (ends-word (drop end text))
         (λ t.
-        let w : word-at at text ≡ [] = word-is ∙ rw (e, slice-empty at text) (word-ended (drop at text) (ap (λ (k : ℕ). ends-word (drop k text)) (sym e) ∙ t)) in
+        let w : word-at at text ≡ [] = word-is
+        ∙ rw (e, slice-empty at text) (word-ended (drop at text) (ap (λ (k : ℕ). ends-word (drop k text)) (sym e) ∙ t)) in
         rw w)
         goes-on-otherwise
 

@@ -1,5 +1,5 @@
-// The program behind `zahrubel dimacs`: rules as DIMACS text on standard input, their ADD frames as lines on standard output. Of a text with a fault, and of one
-// that could not be read, no line is written.
+// The program behind `zahrubel dimacs`: rules as DIMACS text on standard input, their ADD frames as lines on standard output. Of a text with a fault, and of
+// one that could not be read, no line is written.
 ghost use mathlib.Core.Path.{_≡_};
 ghost use Prim.Native.Nat.{_≤_};
 ghost use lib.ListN.{length};

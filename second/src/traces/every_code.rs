@@ -16,6 +16,7 @@ pub fn every_code() -> Vec<u8> {
     places(&mut author);
     proofs(&mut author);
     stack(&mut author);
+    stacked_hints(&mut author);
     fill_words(&mut author);
     fill_entries(&mut author);
     author.write_raw(b"0000000800000000");
@@ -111,8 +112,8 @@ fn proofs(author: &mut Author<'_>) {
     say_all(author, &frames);
 }
 
-/// The stack: groups, cleanness, mending. Leaves the stack empty and the clauses
-/// (11 13), (12 -13) and (11 12).
+/// The stack: groups, cleanness, mending. Leaves (11 13) and (12 -13) stacked, and the clause
+/// (11 12).
 fn stack(author: &mut Author<'_>) {
     let one = next(author);
     let (other, both) = (one + 1, one + 2);
@@ -136,8 +137,27 @@ fn stack(author: &mut Author<'_>) {
         sat(&[-13], &[2, 12]),
         sat(&[3], &[2, 12]),
         sat(&[], &[]),
+    ];
+    say_all(author, &frames);
+}
+
+/// Stacked clauses as hints, and the same ones restored. Leaves the stack empty and the clauses
+/// (11 13), (12 -13) and (11 -12 14).
+fn stacked_hints(author: &mut Author<'_>) {
+    let both = author.state().highest;
+    let (one, other, learned, needing) = (both - 2, both - 1, both + 1, both + 2);
+    let frames = [
+        unsat(&[-11, -13], &[one]),
+        learn(learned, &[11, 13], &[one]),
+        forget(learned),
+        unsat(&[-11, -13], &[learned]),
+        drop_clause(both, &[one, other]),
+        add(needing, &[11, -12, 14]),
+        weaken(both, &[12], &[(needing, vec![one, other])]),
         restore(other),
         restore(one),
+        unsat(&[-11, -13], &[one]),
+        drop_clause(both, &[one, other]),
     ];
     say_all(author, &frames);
 }

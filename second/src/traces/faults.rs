@@ -211,10 +211,11 @@ struct Ground {
     /// A clause that the links allow to be weakened, and the clause it needs a group for.
     weakened: i32,
     needing: i32,
-    /// Learned, and stacked, and one with two open literals.
+    /// Learned, and one with two open literals.
     learned: i32,
-    stacked: i32,
     loose: i32,
+    /// Stacked, and proves at once where it may be named.
+    stacked: i32,
 }
 
 fn lay_ground(author: &mut Author<'_>) -> Ground {
@@ -229,8 +230,8 @@ fn lay_ground(author: &mut Author<'_>) -> Ground {
     let weakened = added(&[l[9], l[0]]);
     let needing = added(&[l[3], -l[9]]);
     let loose = added(&[l[4], l[5]]);
-    let stacked = added(&[l[7], l[8]]);
-    author.say(&weaken(stacked, &[l[7]], &[]));
+    let stacked = added(&[l[3], l[0]]);
+    author.say(&weaken(stacked, &[l[3]], &[]));
     let learned = author.new_id();
     author.say(&learn(learned, &[l[0], l[2]], &links[..2]));
     Ground {
@@ -240,8 +241,8 @@ fn lay_ground(author: &mut Author<'_>) -> Ground {
         weakened,
         needing,
         learned,
-        stacked,
         loose,
+        stacked,
     }
 }
 
@@ -271,8 +272,8 @@ impl Ground {
             self.weakened,
             self.needing,
             self.learned,
-            self.stacked,
             self.loose,
+            self.stacked,
         ]
     }
 }
@@ -332,6 +333,8 @@ struct Needs {
     /// A clause that needs no group.
     other: i32,
     learned: i32,
+    /// Would prove a group if stacked clauses could.
+    stacked: i32,
 }
 
 /// C = (x p) with three pairs of (-x q) and the resolvent (p q), and (-x -p), which opposite
@@ -358,6 +361,9 @@ fn lay_needs(author: &mut Author<'_>) -> Needs {
     let id_of = |clause: [i32; 2]| ids[clause.as_slice()];
     let learned = author.new_id();
     author.say(&learn(learned, &[x, p], &[id_of([x, p])]));
+    let stacked = author.new_id();
+    author.say(&add(stacked, &[p, l[4]]));
+    author.say(&weaken(stacked, &l[4..5], &[]));
     let mut groups: Vec<Group> = vec![(id_of([-p, -x]), vec![])];
     for &q in &l[4..7] {
         groups.push((id_of([-x, q]), vec![id_of([p, q])]));
@@ -373,6 +379,7 @@ fn lay_needs(author: &mut Author<'_>) -> Needs {
         groups,
         other: id_of([p, l[3]]),
         learned,
+        stacked,
     }
 }
 
@@ -405,8 +412,9 @@ impl Needs {
     /// Faults of one group's hints, alone and with a fault of another group beside.
     fn hint_faults(&self, group: usize) -> Vec<Vec<i32>> {
         let mut frames = Vec::new();
-        let bad = [0, -7, i32::MAX, self.clause, self.learned, self.other];
-        let lists = bad.iter().map(|&hint| vec![hint]).chain([vec![]]);
+        let held = [self.clause, self.learned, self.stacked, self.other];
+        let bad = [0, -7, i32::MAX].into_iter().chain(held);
+        let lists = bad.map(|hint| vec![hint]).chain([vec![]]);
         for hints in lists {
             let mut groups = self.groups.clone();
             groups[group].1 = hints;

@@ -9,6 +9,7 @@ mod histories;
 pub(crate) mod moves;
 mod room;
 pub(crate) mod spoil;
+mod stacked;
 
 use crate::lines::opened;
 use author::Author;
@@ -26,7 +27,7 @@ const fn class(name: &'static str, about: &'static str, write: fn(&mut Author<'_
     Class { name, about, write }
 }
 
-pub const CLASSES: [Class; 17] = [
+pub const CLASSES: [Class; 18] = [
     class(
         "small",
         "history over 3 to 8 variables, some frames spoilt",
@@ -88,6 +89,11 @@ pub const CLASSES: [Class; 17] = [
         "groups",
         "code 9, and 7 and 8 in every group",
         faults::groups,
+    ),
+    class(
+        "stacked-hints",
+        "hints that name stacked clauses, in every operation with hints",
+        stacked::stacked_hints,
     ),
     class(
         "entries",

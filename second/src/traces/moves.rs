@@ -24,11 +24,12 @@ pub struct Mix {
 pub type Move = fn(&State, &mut Random, &Mix) -> Vec<Vec<i32>>;
 
 /// The moves of a history, each as often as its weight.
-pub const MOVES: [(usize, Move); 12] = [
+pub const MOVES: [(usize, Move); 13] = [
     (6, add_clean),
     (1, add_any),
     (5, learn_from_conflict),
     (4, learn_resolvent),
+    (3, resolve_stacked),
     (2, forget_any),
     (4, promote_any),
     (3, drop_implied),
@@ -111,6 +112,17 @@ fn irredundant_and_learned(state: &State) -> Clauses<'_> {
     irredundant(state).and(&state.learned)
 }
 
+/// The clauses that hints of LEARN and UNSAT may name, every other time without the stacked
+/// ones.
+fn to_learn_from<'s>(state: &'s State, random: &mut Random) -> Clauses<'s> {
+    let clauses = irredundant_and_learned(state);
+    if random.one_in(2) {
+        clauses.and_stacked(&state.stack)
+    } else {
+        clauses
+    }
+}
+
 /// Decides the used variables at random until a clause is all false or none is open.
 fn decide(state: &State, clauses: &Clauses<'_>, random: &mut Random, mix: &Mix) -> Decided {
     let mut search = Search::new(clauses, 0);
@@ -134,9 +146,9 @@ fn decide(state: &State, clauses: &Clauses<'_>, random: &mut Random, mix: &Mix) 
     }
 }
 
-/// Decides from irredundant and learned clauses until there is a conflict, a few times.
+/// Decides until there is a conflict, a few times.
 fn decide_to_conflict(state: &State, random: &mut Random, mix: &Mix) -> Option<Conflict> {
-    let clauses = irredundant_and_learned(state);
+    let clauses = to_learn_from(state, random);
     (0..4).find_map(|_| match decide(state, &clauses, random, mix) {
         Decided::Conflict(conflict) => Some(conflict),
         Decided::Model(_) => None,
@@ -205,26 +217,43 @@ fn resolvent(one: &[i32], other: &[i32], on: i32) -> Option<Vec<i32>> {
     Some(literals.into_iter().collect())
 }
 
+/// A resolvent of a clause of the first list and one of the second, and hints that prove it.
+fn any_resolvent(
+    ones: &[Named<'_>],
+    others: &[Named<'_>],
+    random: &mut Random,
+) -> Option<(Vec<i32>, Vec<i32>)> {
+    (0..12).find_map(|_| {
+        let (&(id, one), &(other_id, other)) = (random.pick(ones)?, random.pick(others)?);
+        let &on = one.iter().find(|&&literal| other.contains(&-literal))?;
+        let clause = resolvent(one, other, on)?;
+        let fits = (1..=MOST_LITERALS).contains(&clause.len());
+        fits.then(|| (clause, with_unread(vec![id, other_id], random)))
+    })
+}
+
 /// LEARN of a resolvent of two clauses.
 fn learn_resolvent(state: &State, random: &mut Random, _: &Mix) -> Vec<Vec<i32>> {
     let clauses = irredundant_and_learned(state).named;
-    for _ in 0..12 {
-        let (Some(&(id, one)), Some(&(other_id, other))) =
-            (random.pick(&clauses), random.pick(&clauses))
-        else {
-            break;
-        };
-        let Some(&on) = one.iter().find(|&&literal| other.contains(&-literal)) else {
-            continue;
-        };
-        if let Some(clause) = resolvent(one, other, on) {
-            if clause.len() <= MOST_LITERALS && !clause.is_empty() {
-                let hints = with_unread(vec![id, other_id], random);
-                return vec![learn(new_id(state, random), &clause, &hints)];
-            }
-        }
+    let found = any_resolvent(&clauses, &clauses, random);
+    found
+        .map(|(clause, hints)| learn(new_id(state, random), &clause, &hints))
+        .into_iter()
+        .collect()
+}
+
+/// LEARN of a resolvent of a stacked clause and any other, or UNSAT assuming its opposites.
+fn resolve_stacked(state: &State, random: &mut Random, _: &Mix) -> Vec<Vec<i32>> {
+    let stacked = Clauses::new(state.vars).and_stacked(&state.stack).named;
+    let all = to_learn_from(state, random).named;
+    let Some((clause, hints)) = any_resolvent(&stacked, &all, random) else {
+        return Vec::new();
+    };
+    if random.one_in(3) {
+        let assumptions: Vec<i32> = clause.iter().map(|&literal| -literal).collect();
+        return vec![unsat(&assumptions, &hints)];
     }
-    Vec::new()
+    vec![learn(new_id(state, random), &clause, &hints)]
 }
 
 fn any_learned(state: &State, random: &mut Random) -> Option<i32> {
@@ -243,13 +272,13 @@ fn promote_any(state: &State, random: &mut Random, _: &Mix) -> Vec<Vec<i32>> {
         .collect()
 }
 
-/// The clauses hints may name; now and then the learned ones too, which is refused when a
-/// hint does name one.
+/// The clauses that hints of DROP and WEAKEN may name; now and then the learned or the stacked
+/// ones too, which is refused when a hint does name one.
 fn to_lean_on<'s>(state: &'s State, random: &mut Random) -> Clauses<'s> {
-    if random.one_in(5) {
-        irredundant_and_learned(state)
-    } else {
-        irredundant(state)
+    match random.below(5) {
+        0 => irredundant_and_learned(state),
+        1 => irredundant(state).and_stacked(&state.stack),
+        _ => irredundant(state),
     }
 }
 

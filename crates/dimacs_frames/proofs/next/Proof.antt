@@ -37,7 +37,8 @@ module _ (x : tie.Else2) where
   nothing = let s = at-start .args in into-none (s .text .now) (s .cursor) (s .frame .now) (x .before .before .if1 .left) (x .if2 .left)
 
 returns-3 : tie.Need-returns-3
-returns-3 c = let s = c .before .before .before .before .before .before .args in nothing (c .before .before) (none-behind (s .text .now) (s .cursor .at) (c .if3 .taken))
+returns-3 c = let s = c .before .before .before .before .before .before .args in
+    nothing (c .before .before) (none-behind (s .text .now) (s .cursor .at) (c .if3 .taken))
 
 returns-4 : tie.Need-returns-4
 returns-4 c =
@@ -62,6 +63,11 @@ next-spec =
     returns-3
     (λ c κs. search needs)  -- is-behind-requires
     returns-4
-    (λ c κs. (c .before .before .before .if3 .left, stands-behind (start (c .before) .args .text .now) (start (c .before) .args .cursor .at) (behind (c .before)), c .before .before .before .before .before .before .before .if1 .left))  -- yield-clause-requires
+    (λ c κs. (
+      c .before .before .before .if3 .left,
+      stands-behind (start (c .before) .args .text .now) (start (c .before) .args .cursor .at)
+          (behind (c .before)),
+      c .before .before .before .before .before .before .before .if1 .left,
+    ))  -- yield-clause-requires
     (λ c. search needs)  -- same-length-2
     returns-5)

@@ -12,4 +12,5 @@ write-frame-spec =
     (λ c. search needs)  -- slice-aggregate-write-both
     (λ c κs. search needs)  -- write-both-requires
     (λ c. search needs)  -- same-length
-    (λ c. let s = c .before .before .before .before in c .before .write-both .ensures ∙ frame-over (s .args .frame .now) (s .args .id) (s .args .lits .now) (s .pre .1)))  -- returns
+    (λ c. let s = c .before .before .before .before in c .before .write-both .ensures
+    ∙ frame-over (s .args .frame .now) (s .args .id) (s .args .lits .now) (s .pre .1)))  -- returns

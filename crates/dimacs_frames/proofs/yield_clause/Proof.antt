@@ -67,7 +67,8 @@ yield-clause-spec =
     (λ c. search needs)  -- add-write-frame
     (λ c. let k = c .before .before in omega (arith, closed k .0))  -- array-share-prefix-lits
     (λ c. sym (as-long (c .before .before .before)))  -- slice-aggregate-write-frame
-    (λ c κs. let k = c .before .before .before in (omega (arith, as-long k, closed k .0, start k .pre .2), omega (arith, c .before .before .if1 .left)))  -- write-frame-requires
+    (λ c κs. let k = c .before .before .before in
+    (omega (arith, as-long k, closed k .0, start k .pre .2), omega (arith, c .before .before .if1 .left)))  -- write-frame-requires
     (λ c. let k = c .before .before .before .before .before in omega (arith, closed k .0))  -- add-t22
     (λ c. search needs)  -- add-t19
     (λ c. search needs)  -- enum-told

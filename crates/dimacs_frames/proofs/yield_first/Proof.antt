@@ -29,7 +29,8 @@ returns-3 c =
     let d = c .before .before .before in
     let s = start d in
     let judged = sym (d .before .before .before .before .enum-told .given .1) ∙ d .before .before .before .before .before .before .judge .ensures in
-    c .before .yield-clause .ensures ∙ ap (into (s .args .frame .now)) (first-clause (s .args .text .now) (read-text (s .args .text .now)) judged _ (declared d .words))
+    c .before .yield-clause .ensures
+    ∙ ap (into (s .args .frame .now)) (first-clause (s .args .text .now) (read-text (s .args .text .now)) judged _ (declared d .words))
 
 pub yield-first-spec : {M : Type 1} → statement M
 yield-first-spec =

@@ -32,7 +32,8 @@ ended : (c : tie.After-known-told5)
 ended c = rw (c .before .scanned3 .given .1) at (c .before .before .before .scan-all .ensures)
 
 returns : tie.Need-returns
-returns c = let p = c .before .before .before .before .before in judged-sound (start p .args .text .now) _ _ _ _ _ (declared p) _ (ended (c .before)) (short p) (c .if1 .taken)
+returns c = let p = c .before .before .before .before .before in
+    judged-sound (start p .args .text .now) _ _ _ _ _ (declared p) _ (ended (c .before)) (short p) (c .if1 .taken)
 
 returns-2 : tie.Need-returns-2
 returns-2 c = sym (ap judged-text (rw (c .before .problem .given .1) at (c .before .before .before .read-problem .ensures)))
@@ -47,7 +48,8 @@ returns-4 : tie.Need-returns-4
 returns-4 c = absurd (rw (c .before .scanned2 .given .1) at (c .before .before .before .scan-all .ensures))
 
 returns-5 : tie.Need-returns-5
-returns-5 c = let p = c .before .before .before .before .before in judged-miscounted (start p .args .text .now) _ _ _ _ _ (declared p) _ (ended (c .before)) (short p) (c .if1 .left)
+returns-5 c = let p = c .before .before .before .before .before in
+    judged-miscounted (start p .args .text .now) _ _ _ _ _ (declared p) _ (ended (c .before)) (short p) (c .if1 .left)
 
 pub judge-spec : {M : Type 1} → statement M
 judge-spec =

@@ -40,7 +40,8 @@ returns c =
 returns-2 : tie.Need-returns-2 Inv-loop μ-loop
 returns-2 c =
     let x = c .before .before .before .before .before in
-    scan-past (x .before .before .loop .inv) _ (x .next-word .ensures) (not-false (c .before .before .if1 .left)) (omega (arith, c .if3 .taken, c .before .wide .ensures)) _
+    scan-past (x .before .before .loop .inv) _ (x .next-word .ensures) (not-false (c .before .before .if1 .left))
+    (omega (arith, c .if3 .taken, c .before .wide .ensures)) _
 
 -- within V
 module _ (c : tie.After-stops-arg Inv-loop μ-loop) where
@@ -64,7 +65,8 @@ module _ (c : tie.After-stops-arg Inv-loop μ-loop) where
 
 -- reading stops there or not
 module _ (c : tie.After-stops Inv-loop μ-loop) (b : Bool) (e : c .stops .result ≡ b) where
-  told : StopsTold (start (c .before) .args .all) (at (c .before) .loop .stamps) (word (c .before) .next-word .result .read .value) (at (c .before) .loop .stamp) b
+  told : StopsTold (start (c .before) .args .all) (at (c .before) .loop .stamps) (word (c .before) .next-word .result .read .value)
+      (at (c .before) .loop .stamp) b
       (c .stops .last .1 .0)
   told = rw e at (c .stops .ensures)
 
@@ -72,13 +74,15 @@ returns-3 : tie.Need-returns-3 Inv-loop μ-loop
 returns-3 c =
     let x = c .before .before .before .before in
     let a = x .before in
-    scan-twice (at a .loop .inv) _ (word a .next-word .ensures) (number a) (start a .pre .few) (within a) _ _ (c .if5 .taken) (told x true (c .before .if4 .taken))
+    scan-twice (at a .loop .inv) _ (word a .next-word .ensures) (number a) (start a .pre .few) (within a) _ _ (c .if5 .taken)
+    (told x true (c .before .if4 .taken))
 
 returns-4 : tie.Need-returns-4 Inv-loop μ-loop
 returns-4 c =
     let x = c .before .before .before .before in
     let a = x .before in
-    scan-closed (at a .loop .inv) _ (word a .next-word .ensures) (number a) (start a .pre .few) (within a) _ (c .if5 .left) (told x true (c .before .if4 .taken))
+    scan-closed (at a .loop .inv) _ (word a .next-word .ensures) (number a) (start a .pre .few) (within a) _ (c .if5 .left)
+    (told x true (c .before .if4 .taken))
 
 -- reading goes on
 module _ (c : tie.After-longer Inv-loop μ-loop) where
@@ -111,7 +115,8 @@ loop-again c =
     let y = c .before in
     let a = asked y in
     rw (y .before .before .literal-of .ensures, toZ-ofZ (sign-fits (word a .next-word .result .read .minus) (value y) (small a)))
-    (scan-on (at a .loop .inv) _ (word a .next-word .ensures) (number a) (start a .pre .few) (within a) _ (on y) _ (y .longer .ensures .0) _ (y .before .bit .ensures .0)
+    (scan-on (at a .loop .inv) _ (word a .next-word .ensures) (number a) (start a .pre .few) (within a) _ (on y) _ (y .longer .ensures .0) _
+    (y .before .bit .ensures .0)
     (c .if6 .left))
 
 -- ---- no word is left
@@ -153,7 +158,8 @@ scan-spec =
     (λ c. search needs)  -- mul-t15
     (λ c. let l = at (c .before .before .before .before .before) .loop .inv in omega (arith, l .few, l .room))  -- slice-set-from-lits
     (λ c κs. search needs)  -- bit-requires
-    (λ c. let a = c .before .before .before .before .before .before in let l = at a .loop .inv in omega (arith, l .low, l .high, c .bit .ensures .1, start a .good))  -- add-stamp
+    (λ c. let a = c .before .before .before .before .before .before in let l = at a .loop .inv in
+    omega (arith, l .low, l .high, c .bit .ensures .1, start a .good))  -- add-stamp
     (λ c κs. at (c .before .before .before .before .before .before) .loop .inv .few)  -- longer-requires
     (λ c. let x = stopped (c .before) in omega (arith, x .stops .kept, at (x .before) .loop .inv .kept-stamps))  -- same-length-9
     (λ c. let l = at (asked (c .before)) .loop in length-set (l .lits) (l .n) _ ∙ l .inv .kept)  -- same-length-10

@@ -66,7 +66,8 @@ returns c =
     let called = c .before .before in
     let l = called .before .before .before in
     let k = c .match .keys2 in
-    going-end (l .loop .inv .0) (l .loop .frame) _ _ (called .next .ensures) (omega (arith, l .loop .inv .2, l .before .before .before .pre .0)) (λ n e q. other-tag (rw q at k))
+    going-end (l .loop .inv .0) (l .loop .frame) _ _ (called .next .ensures) (omega (arith, l .loop .inv .2, l .before .before .before .pre .0))
+    (λ n e q. other-tag (rw q at k))
 
 put-frame-requires : tie.Need-put-frame-requires Inv-loop μ-loop
 put-frame-requires c κs =
@@ -91,7 +92,8 @@ loop-again c =
     (going-more (i .0) (l k .loop .frame) (words k) (count k) (behind k) (frame-told k) (p .ensures), put-inside c .1, out-of k .wide ∙ i .2, p .kept .0 ∙ i .3)
 
 returns-2 : tie.Need-returns-2 Inv-loop μ-loop
-returns-2 c = let l = c .before in going-on (l .loop .inv .0) (omega (arith, c .loop-test .left, l .loop .inv .1, l .loop .inv .3, l .before .before .before .pre .1))
+returns-2 c = let l = c .before in
+    going-on (l .loop .inv .0) (omega (arith, c .loop-test .left, l .loop .inv .1, l .loop .inv .3, l .before .before .before .pre .1))
 
 pub fill-spec : {M : Type 1} → statement M
 fill-spec =

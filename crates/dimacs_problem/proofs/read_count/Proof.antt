@@ -17,7 +17,8 @@ told : (c : tie.After-known-told2)
 told c = rw (c .before .look2 .given .1) at (c .before .before .before .read-number .ensures)
 
 returns : tie.Need-returns
-returns c = let x = c .before .before .before in fifth-word _ _ _ _ _ _ (told (x .before)) _ (x .seek .ensures) (c .before .before .if1 .taken) (not-true (c .if2 .taken))
+returns c = let x = c .before .before .before in
+    fifth-word _ _ _ _ _ _ (told (x .before)) _ (x .seek .ensures) (c .before .before .if1 .taken) (not-true (c .if2 .taken))
 
 returns-2 : tie.Need-returns-2
 returns-2 c = let t = rw (c .before .look .given .1) at (c .before .before .before .read-number .ensures) in t _

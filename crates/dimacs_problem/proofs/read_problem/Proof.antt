@@ -45,7 +45,8 @@ module _ (c : tie.Else3) where
   cnf-inside = spelled-inside (text at-p) next (99 ∷ 110 ∷ 102 ∷ []) (c .before .before .before .seek .ensures .high) cnf-spelled
 
   cnf-said : read-text (text at-p) ≡ read-vars (length (text at-p)) (words-from false (next + 3) (text at-p))
-  cnf-said = p-said at-p ∙ cnf-read (text at-p) _ (c .before .before .before .seek .result) (c .before .before .before .seek .ensures) cnf-spelled (c .before .before .if2 .left)
+  cnf-said = p-said at-p ∙ cnf-read (text at-p) _ (c .before .before .before .seek .result) (c .before .before .before .seek .ensures) cnf-spelled
+      (c .before .before .if2 .left)
 
   rest : body-words (text at-p) ≡ drop 2 (words-from false (next + 3) (text at-p))
   rest =

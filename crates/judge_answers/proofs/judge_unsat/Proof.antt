@@ -42,7 +42,8 @@ returns-2 c =
     decides _ 0 (c .judged-by .ensures)
     (goes-on (in-reach x) _
     ∙ sym (d .decided .ensures ∙ ap (decided (2 + length (a .assumed .now)) 0) (d .before .refutes .ensures
-    ∙ ap (λ A. proves A (map negℤ (a .assumed .now)) (a .hints .now)) (allows-all (scope .all-clauses .ensures) (readable (s x .pre .0))))))
+    ∙ ap (λ A. proves A (map negℤ (a .assumed .now)) (a .hints .now))
+    (allows-all (scope .all-clauses .ensures) (readable (s x .pre .0)) (s x .pre .0 .core .listed)))))
     refl
 
 pub judge-unsat-spec : {M : Type 1} → statement M

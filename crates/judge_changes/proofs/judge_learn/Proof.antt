@@ -5,7 +5,7 @@ use Prim.Native.Nat.{_+_}
 use lib.Dec.{ltb}
 use lib.ListN.{length}
 use borrow.Author.Needs.{needs}
-use Rattle.rules.specs.Terms.{State}
+use Rattle.rules.specs.Terms.{State, everything}
 use Rattle.rules.specs.Propagation.{among, proves}
 use Rattle.rules.specs.Frames.{LEARN}
 use Rattle.rules.specs.Answers.{_then_, need, flaw, unseen, decided, check}
@@ -40,7 +40,7 @@ module _ (x : tie.After-free) where
   state = spelled (a .args .t) (a .args .rows .now) (a .args .pool .now) (a .args .stack .now)
 
   abbrev proved : Check
-  proved = decided (3 + length (a .args .c .now)) 0 (proves (among (state .irredundant ++ state .learned)) (a .args .c .now) (a .args .hints .now))
+  proved = decided (3 + length (a .args .c .now)) 0 (proves (among (everything state)) (a .args .c .now) (a .args .hints .now))
 
   left : check state (LEARN (a .args .id) (a .args .c .now) (a .args .hints .now)) ≡ (x .free .result then proved)
   unfolding check
@@ -72,7 +72,7 @@ returns-3 c =
     decides _ 0 (c .judged-by .ensures)
     (left x ∙ goes-on (scope .before .before .enum-told2 .given .1) _
     ∙ sym (d .decided .ensures ∙ ap (decided (3 + length (i .c .now)) 0) (d .before .proves .ensures
-    ∙ ap (λ A. proves A (i .c .now) (i .hints .now)) (allows-all (scope .all-clauses .ensures) (readable (a x .pre .0))))))
+    ∙ ap (λ A. proves A (i .c .now) (i .hints .now)) (allows-all (scope .all-clauses .ensures) (readable (a x .pre .0)) (a x .pre .0 .core .listed)))))
     refl
 
 pub judge-learn-spec : {M : Type 1} → statement M

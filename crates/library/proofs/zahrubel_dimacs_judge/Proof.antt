@@ -110,7 +110,8 @@ module _ {M : Type 1} (𝓤 : URA M) (H : Heap 𝓤) (A : Atoms 𝓤) (W : Given
       -- [cnf; its token; the text's token; text]
       returns ! (look ! 4 refl) $ frees ! 4 _ refl $ move ! (2 ∷ []) $ split ! $ move ! (0 ∷ 3 ∷ 1 ∷ []) $ group ! 3 $ move ! (0 ∷ 2 ∷ 1 ∷ []) $
       let said = subst (λ (x : TextAnswer). CnfHanding x before h) e₁ e₂ in
-      ends f.ended passed 𝓤 H A (f.clauses 𝓤 H A mem run) κs qs bounds a g W numbers-value (h .numbers) (tt & h .cnf & tt) (tt & tt & tt) (brought & brought & tt)
+      ends f.ended passed 𝓤 H A (f.clauses 𝓤 H A mem run) κs qs bounds a g W numbers-value (h .numbers) (tt & h .cnf & tt) (tt & tt & tt)
+      (brought & brought & tt)
       h-numbers (factI 𝓤 _ (emp 𝓤) (record { told = said .0; handed-back = said .1 }))))))
 
 pub zahrubel-dimacs-judge-spec : {M : Type 1} → stated.statement M

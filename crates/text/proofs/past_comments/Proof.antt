@@ -18,14 +18,22 @@ abbrev μ-loop : tie.MeasureT-loop
 loop-again : tie.Need-loop-again Inv-loop μ-loop
 loop-again c =
     let x = c .before .before .before .before in
-    let e = c .before .line-end .ensures in
-    (omega (arith, e .unclosed .low), omega (arith, c .if2 .taken), x .before .loop .inv .2 ∙ comment-closed _ _ _ e (x .loop-test .taken) (c .before .before .if1 .left) (c .if2 .taken))
+    let e = c .before .line-end .ensures in (
+      omega (arith, e .unclosed .low),
+      omega (arith, c .if2 .taken),
+      x .before .loop .inv .2
+          ∙ comment-closed _ _ _ e (x .loop-test .taken) (c .before .before .if1 .left) (c .if2 .taken),
+    )
 
 loop-again-2 : tie.Need-loop-again-2 Inv-loop μ-loop
 loop-again-2 c =
     let x = c .before .before .before .before in
-    let e = c .before .line-end .ensures in
-    (omega (arith, e .unclosed .low), e .unclosed .high, x .before .loop .inv .2 ∙ comment-last _ _ _ e (x .loop-test .taken) (c .before .before .if1 .left) (c .if2 .left))
+    let e = c .before .line-end .ensures in (
+      omega (arith, e .unclosed .low),
+      e .unclosed .high,
+      x .before .loop .inv .2
+          ∙ comment-last _ _ _ e (x .loop-test .taken) (c .before .before .if1 .left) (c .if2 .left),
+    )
 
 returns : tie.Need-returns Inv-loop μ-loop
 returns c = record {

@@ -34,10 +34,13 @@ read-whole-spec =
     (λ c κs. c .before .before .loop .inv .0)  -- read-on-requires
     (λ c κs. tt)  -- ended-requires
     (λ c. let r = c .before .before .before .before .before in omega (arith, as-long r, at r .loop .inv .1))  -- same-length
-    (λ c. let r = c .before .before .before .before .before in long-inside (at r .loop .done) (r .read-on .last .0) (c .ended .result) (c .ended .ensures) (omega (arith, inside r)))  -- returns
+    (λ c. let r = c .before .before .before .before .before in
+    long-inside (at r .loop .done) (r .read-on .last .0) (c .ended .result) (c .ended .ensures) (omega (arith, inside r)))  -- returns
     (λ c. let r = c .before .before .before .before .before in omega (arith, inside r, as-long r, at r .loop .inv .1, at r .before .before .good))  -- add-done
-    (λ c. let r = c .before .before .before .before .before in omega (arith, inside r, as-long r, c .before .if1 .left, r .before .before .loop-test .taken))  -- loop-less
+    (λ c. let r = c .before .before .before .before .before in
+    omega (arith, inside r, as-long r, c .before .if1 .left, r .before .before .loop-test .taken))  -- loop-less
     (λ c. let r = c .before .before .before .before .before in (inside r, omega (arith, as-long r, at r .loop .inv .1)))  -- loop-again
     (λ c κs. tt)  -- filled-requires
     (λ c. c .before .before .loop .inv .1)  -- same-length-2
-    (λ c. long-inside (c .before .before .loop .done) (c .before .before .loop .buf) (c .filled .result) (c .filled .ensures) (c .before .before .loop .inv .0)))  -- returns-2
+    (λ c. long-inside (c .before .before .loop .done) (c .before .before .loop .buf) (c .filled .result) (c .filled .ensures)
+    (c .before .before .loop .inv .0)))  -- returns-2

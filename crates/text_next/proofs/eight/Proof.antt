@@ -13,7 +13,8 @@ returns c =
     let c2 = c3 .before .before in
     let c1 = c2 .before .before in
     let s = c1 .before .before in
-    eight-read _ _ (s .before .pre) (λ i. s .shared-slice-known .given i .fits) (c1 .wide .ensures) (c2 .wide2 .ensures) (c3 .wide3 .ensures) (c4 .wide4 .ensures)
+    eight-read _ _ (s .before .pre) (λ i. s .shared-slice-known .given i .fits) (c1 .wide .ensures) (c2 .wide2 .ensures) (c3 .wide3 .ensures)
+    (c4 .wide4 .ensures)
     (c5 .wide5 .ensures) (c6 .wide6 .ensures) (c7 .wide7 .ensures) (c .wide8 .ensures)
 
 pub eight-spec : {M : Type 1} → statement M

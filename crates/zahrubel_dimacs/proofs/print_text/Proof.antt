@@ -21,7 +21,8 @@ abbrev μ-loop : tie.MeasureT-loop
 filling : (x : tie.After-fill Inv-loop μ-loop) → {r : Filled} → x .fill .result ≡ r → let l = x .before .before .before in
     Filling (l .before .before .before .before .args .text .now) (l .loop .cursor) (l .loop .out) r (x .fill .last .1 .1 .1 .0)
 filling x {r} e = let l = x .before .before .before in
-    subst (λ (q : Filled). Filling (l .before .before .before .before .args .text .now) (l .loop .cursor) (l .loop .out) q (x .fill .last .1 .1 .1 .0)) e (x .fill .ensures)
+    subst (λ (q : Filled). Filling (l .before .before .before .before .args .text .now) (l .loop .cursor) (l .loop .out) q (x .fill .last .1 .1 .1 .0)) e
+    (x .fill .ensures)
 
 -- the text goes on
 module _ (c : tie.After-known-told Inv-loop μ-loop) where
@@ -31,14 +32,16 @@ module _ (c : tie.After-known-told Inv-loop μ-loop) where
   abbrev l : tie.At-loop Inv-loop μ-loop
   l = called .before .before .before
 
-  on : PrintedOn (l .before .before .before .before .args .text .now) (l .loop .cursor) (c .before .filled .given .0 .1 .0) (l .loop .out) (called .fill .last .1 .1 .1 .0)
+  on : PrintedOn (l .before .before .before .before .args .text .now) (l .loop .cursor) (c .before .filled .given .0 .1 .0) (l .loop .out)
+      (called .fill .last .1 .1 .1 .0)
       (c .before .filled .given .0 .0)
   on = filling called (c .before .filled .given .1)
 
 -- it has ended
 all : (c : tie.After-known-told2 Inv-loop μ-loop) → let x = c .before .before .before .before .before in
     let l = x .before .before .before in
-    PrintedAll (l .before .before .before .before .args .text .now) (l .loop .cursor) (l .loop .out) (x .fill .last .1 .1 .1 .0) (c .before .filled2 .given .0 .0)
+    PrintedAll (l .before .before .before .before .args .text .now) (l .loop .cursor) (l .loop .out) (x .fill .last .1 .1 .1 .0)
+    (c .before .filled2 .given .0 .0)
     (c .before .filled2 .given .0 .1 .0)
 all c = filling (c .before .before .before .before .before) (c .before .filled2 .given .1)
 
