@@ -1,6 +1,5 @@
 -- What a series of calls hands out: the frames of a text without fault, all of them and no others; of a faulty text none.
 use mathlib.Core.Path.{_≡_, refl, sym, ap, ap₂, _∙_}
-use mathlib.Core.Bool.{Bool, true, false, cond}
 use mathlib.Core.Logic.{⊎-elim}
 use mathlib.Core.List.{List, [], _∷_, _++_, append-assoc, append-nil}
 use mathlib.Core.Option.{Option, none, some}
@@ -29,26 +28,36 @@ use Rattle.dimacs_frames.specs.declared.Yield.the-variants.{Frame, NoneL
 
 -- ---- what a call tells and hands out does not lean on its buffer
 
--- the words of a frame are as many as is told
-abbrev Counted : Yield × List ℤ → Type 0
-Counted (r, ws) = (n : ℕ) (d : Cursor) → r ≡ Frame n d → n ≡ length ws
+-- a frame has as many words as is told, 2 to 258, and the next id behind this one
+pub record FrameOf (id n : ℕ) (d : Cursor) (ws : List ℤ) : Type 0 where
+  pub counted : n ≡ length ws
+  pub worded : 2 ≤ n
+  pub short : n ≤ 258
+  pub named : d .id ≡ id + 1
+  pub left : id < 2147483647
 
-clause-counted : (id : ℕ) (o : Option ClosedClause) → Counted (yield-clause id o)
-clause-counted id none = λ n d e. let z : _≡_ {A = ℕ} 0 1 = cc in absurd (omega arith)
-clause-counted id (some x) = by-cases (ltb id 2147483647)
-    (λ t. rw t (λ n d e. let same : n ≡ 2 + length (x .lits) = cc in omega arith))
+abbrev Framed : ℕ → Yield × List ℤ → Type 0
+Framed id (r, ws) = (n : ℕ) (d : Cursor) → r ≡ Frame n d → FrameOf id n d ws
+
+clause-framed : (id : ℕ) (ws : List TextWord) (o : Option ClosedClause) → next-clause [] ws ≡ o → Framed id (yield-clause id o)
+clause-framed id ws none q = λ n d e. let z : _≡_ {A = ℕ} 0 1 = cc in absurd (omega arith)
+clause-framed id ws (some x) q = by-cases (ltb id 2147483647)
+    (λ t.
+    rw t (λ n d e.
+    let many : n ≡ 2 + length (x .lits) = cc in
+    let named : d .id ≡ id + 1 = cc in
+    let few = clause-short ws [] (omega arith) q in
+    record { counted = omega arith; worded = omega arith; short = omega arith; named = named; left = ltb-true id 2147483647 t }))
     (λ f. rw f (λ n d e. let z : _≡_ {A = ℕ} 0 1 = cc in absurd (omega arith)))
 
-first-counted : (text : List ℕ) (r : Read Cnf) → Counted (yield-first text r)
-first-counted text (faulty f) = λ n d e. let z : _≡_ {A = ℕ} 0 1 = cc in absurd (omega arith)
-first-counted text (sound x) = clause-counted 0 (next-clause [] (body-words text))
+first-framed : (text : List ℕ) (r : Read Cnf) → Framed 0 (yield-first text r)
+first-framed text (faulty f) = λ n d e. let z : _≡_ {A = ℕ} 0 1 = cc in absurd (omega arith)
+first-framed text (sound x) = clause-framed 0 (body-words text) _ refl
 
-counted : (text : List ℕ) (c : Cursor) → Counted (yields text c)
-counted text c = of (eqb (c .id) 0)
-  where
-    of : (b : Bool) → Counted (cond b (yield-first text (read-text text)) (yield-clause (c .id) (next-clause [] (words-left text (c .at)))))
-    of true = first-counted text (read-text text)
-    of false = clause-counted (c .id) (next-clause [] (words-left text (c .at)))
+framed : (text : List ℕ) (c : Cursor) → Framed (c .id) (yields text c)
+framed text c = by-cases (eqb (c .id) 0)
+    (λ t. let none = eqb-true (c .id) 0 t in rw none (first-framed text (read-text text)))
+    (λ f. rw f (clause-framed (c .id) (words-left text (c .at)) _ refl))
 
 module _ (text : List ℕ) (c : Cursor) where
   enough : (frame : List ℤ) → 258 ≤ length frame → yields-into text c frame ≡ into frame (yields text c)
@@ -71,35 +80,13 @@ module _ (text : List ℕ) (c : Cursor) where
   handed : (frame frame′ : List ℤ) (n : ℕ) (d : Cursor) → (Frame n d, frame′) ≡ yields-into text c frame → take n frame′ ≡ yields text c .1
   handed frame frame′ n d e =
       let all = e ∙ enough frame (fits frame frame′ n d e) in
-      let many = counted text c n d (sym (ap (λ (x : Yield × List ℤ). x .0) all)) in
+      let many = framed text c n d (sym (ap (λ (x : Yield × List ℤ). x .0) all)) .counted in
       ap (take n) (ap (λ (x : Yield × List ℤ). x .1) all) ∙ ap (λ (k : ℕ). take k (over frame (yields text c .1))) many ∙ take-append-seam (yields text c .1) _
 
 -- ---- what a call that hands out a frame comes to
 
--- the frame has at most 258 words, and the next id is the cursor's
-abbrev Onward : ℕ → Yield → Type 0
-Onward id r = (n : ℕ) (d : Cursor) → r ≡ Frame n d → (n ≤ 258) × (d .id ≡ id + 1) × (id < 2147483647)
-
-clause-moved : (id : ℕ) (ws : List TextWord) (o : Option ClosedClause) → next-clause [] ws ≡ o → Onward id (yield-clause id o .0)
-clause-moved id ws none q = λ n d e. let z : _≡_ {A = ℕ} 0 1 = cc in absurd (omega arith)
-clause-moved id ws (some x) q = by-cases (ltb id 2147483647)
-    (λ t.
-    rw t (λ n d e.
-    let many : n ≡ 2 + length (x .lits) = cc in
-    let named : d .id ≡ id + 1 = cc in
-    (omega (arith, clause-short ws [] (omega arith) q), named, ltb-true id 2147483647 t)))
-    (λ f. rw f (λ n d e. let z : _≡_ {A = ℕ} 0 1 = cc in absurd (omega arith)))
-
-first-moved : (text : List ℕ) (r : Read Cnf) → Onward 0 (yield-first text r .0)
-first-moved text (faulty f) = λ n d e. let z : _≡_ {A = ℕ} 0 1 = cc in absurd (omega arith)
-first-moved text (sound x) = clause-moved 0 (body-words text) _ refl
-
-moved : (text : List ℕ) (c : Cursor) → Onward (c .id) (yields text c .0)
-moved text c = by-cases (eqb (c .id) 0)
-    (λ t. let none = eqb-true (c .id) 0 t in rw none (first-moved text (read-text text)))
-    (λ f. rw f (clause-moved (c .id) (words-left text (c .at)) _ refl))
-
 pub record HandedOut (c : Cursor) (frame : List ℤ) (n : ℕ) (d : Cursor) (frame′ : List ℤ) : Type 0 where
+  pub worded : 2 ≤ n
   pub short : n ≤ 258
   pub named : d .id ≡ c .id + 1
   pub last : d .id ≤ 2147483647
@@ -110,15 +97,14 @@ pub handed-out : (text : List ℕ) (c : Cursor) (frame frame′ : List ℤ) (n :
 handed-out text c frame frame′ n d e =
     let h = fits text c frame frame′ n d e in
     let all = e ∙ enough text c frame h in
-    let called = sym (ap (λ (x : Yield × List ℤ). x .0) all) in
-    let (short, named, before) = moved text c n d called in
+    let f = framed text c n d (sym (ap (λ (x : Yield × List ℤ). x .0) all)) in
     let words = yields text c .1 in
-    let few : length words ≤ length frame = omega (arith, counted text c n d called) in
     record {
-      short = short;
-      named = named;
-      last = omega arith;
-      wide = ap length (ap (λ (x : Yield × List ℤ). x .1) all) ∙ length-over frame words few;
+      worded = f .worded;
+      short = f .short;
+      named = f .named;
+      last = omega (arith, f .named, f .left);
+      wide = ap length (ap (λ (x : Yield × List ℤ). x .1) all) ∙ length-over frame words (omega (arith, f .counted, f .short));
     }
 
 -- ---- frames that lead on

@@ -20,7 +20,7 @@ use Rattle.line_hex.proofs.Written.{glyph-digit, word-value}
 use Rattle.line_read.specs.Lines.{closed-lines, unclosed, words-of, frame-of, line-outcome, reply, replies, program}
 use Rattle.line_read.specs.Parts.{replied}
 use Rattle.line_read.proofs.Parts.{digits-go-on}
-use Rattle.dimacs_lines.specs.Lines.{words-in-hex, fits-line, frame-line, frame-lines}
+use Rattle.dimacs_lines.specs.Lines.{words-in-hex, fits-line, frame-lines}
 use Rattle.dimacs_lines.proofs.Framing.{words-length, words-append}
 
 -- ---- a line

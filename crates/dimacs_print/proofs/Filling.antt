@@ -8,7 +8,7 @@ use lib.ListN.{length, take, length-append}
 use Rattle.line_read.specs.Lent.{Wrote}
 use Rattle.line_put.proofs.Writing.{wrote-none, wrote-then, wrote-as}
 use Rattle.dimacs_frames.specs.Yields.{yields-into}
-use Rattle.dimacs_frames.specs.Series.{Series, no-frame, Leads}
+use Rattle.dimacs_frames.specs.Series.{no-frame, Leads}
 use Rattle.dimacs_frames.specs.declared.Cursor.{Cursor}
 use Rattle.dimacs_frames.specs.declared.Yield.{Yield}
 use Rattle.dimacs_frames.specs.declared.Yield.the-variants.{Frame}
@@ -21,11 +21,15 @@ use Rattle.dimacs_print.specs.Printed.{PrintedOn, PrintedAll}
 pub line-long : (f : List ℤ) → length (frame-line f) ≡ 8 * length f + 1
 line-long f = omega (arith, length-append (words-in-hex f) (10 ∷ []), words-length f)
 
--- the lines of frames, and one more
+-- the lines of frames, and of more
+pub lines-both : (fs gs : List (List ℤ)) → frame-lines (fs ++ gs) ≡ frame-lines fs ++ frame-lines gs
+unfolding frame-lines
+lines-both [] gs = refl
+lines-both (f ∷ fs) gs = ap (λ (l : List ℕ). frame-line f ++ l) (lines-both fs gs) ∙ sym (append-assoc (frame-line f) (frame-lines fs) (frame-lines gs))
+
 lines-more : (fs : List (List ℤ)) (f : List ℤ) → frame-lines (fs ++ (f ∷ [])) ≡ frame-lines fs ++ frame-line f
 unfolding frame-lines
-lines-more [] f = append-nil (frame-line f)
-lines-more (g ∷ gs) f = ap (λ (l : List ℕ). frame-line g ++ l) (lines-more gs f) ∙ sym (append-assoc (frame-line g) (frame-lines gs) (frame-line f))
+lines-more fs f = lines-both fs (f ∷ []) ∙ ap (λ (l : List ℕ). frame-lines fs ++ l) (append-nil (frame-line f))
 
 -- the frames that led from c to d stand in the buffer
 pub record Going (text : List ℕ) (c : Cursor) (out : List ℕ) (d : Cursor) (out′ : List ℕ) (at : ℕ) : Type 0 where

@@ -1,9 +1,9 @@
 -- What calls of `fill` one after the other put: the lines of a text's frames, all of them in order; of a faulty text none.
-use mathlib.Core.Path.{_≡_, refl, sym, ap, ap₂, _∙_}
-use mathlib.Core.List.{List, [], _∷_, _++_, append-assoc}
+use mathlib.Core.Path.{_≡_, sym, ap, ap₂, _∙_}
+use mathlib.Core.List.{List, [], _++_}
 use Prim.Native.Nat.{ℕ, _≤_}
 use lib.IntN.{ℤ}
-use lib.ListN.{length, take}
+use lib.ListN.{length}
 use Rattle.dimacs.specs.Reading.{faulty, sound, Cnf, read-text}
 use Rattle.dimacs.specs.Frames.{frames-of}
 use Rattle.dimacs.specs.declared.TextFault.{TextFault}
@@ -12,13 +12,9 @@ use Rattle.dimacs_frames.specs.declared.Cursor.{Cursor}
 use Rattle.dimacs_frames.specs.declared.Yield.{Yield}
 use Rattle.dimacs_frames.specs.declared.Yield.the-variants.{NoneLeft, Faulty}
 use Rattle.dimacs_frames.proofs.Series.{frames-handed-out, no-frame-of-a-fault}
-use Rattle.dimacs_lines.specs.Lines.{frame-line, frame-lines}
+use Rattle.dimacs_lines.specs.Lines.{frame-lines}
 use Rattle.dimacs_print.specs.Printed.{Prints, printed-last, printed-more}
-
-lines-both : (fs gs : List (List ℤ)) → frame-lines (fs ++ gs) ≡ frame-lines fs ++ frame-lines gs
-unfolding frame-lines
-lines-both [] gs = refl
-lines-both (f ∷ fs) gs = ap (λ (l : List ℕ). frame-line f ++ l) (lines-both fs gs) ∙ sym (append-assoc (frame-line f) (frame-lines fs) (frame-lines gs))
+use Rattle.dimacs_print.proofs.Filling.{lines-both}
 
 printed-series : {text : List ℕ} {c : Cursor} {bs : List ℕ} {told : Yield} → Prints text c bs told
     → (fs : List (List ℤ)) × (bs ≡ frame-lines fs) × Series text c fs told

@@ -1,21 +1,19 @@
 -- What holds over the archive's calls. A refused part leaves every lent word, what is carried, and what is read word for word, whatever number says that the
 -- line is spoilt. And what a series of calls over a DIMACS text hands out: exactly its frames, or none of a faulty one.
 use mathlib.Core.Path.{_≡_, sym, _∙_, ap, ap₂, subst}
-use mathlib.Core.Bool.{Bool, true, false, cond}
 use mathlib.Core.List.{List, []}
-use mathlib.Core.Option.{Option, none, some}
-use Prim.Native.Nat.{ℕ, _≤_, _<_}
+use mathlib.Core.Option.{none}
+use Prim.Native.Nat.{ℕ, _≤_}
 use native.Mathlib.Omega.{arith}
-use lib.Dec.{eqb, ltb}
 use lib.IntN.{ℤ}
 use lib.ListN.{length}
 use Rattle.rules.specs.Answers.{numbers}
-use Rattle.dimacs.specs.Reading.{Read, faulty, sound, Cnf, fault-numbers, read-text, body-words}
-use Rattle.dimacs.specs.Frames.{ClosedClause, next-clause, frames-of}
+use Rattle.dimacs.specs.Reading.{faulty, sound, Cnf, fault-numbers, read-text}
+use Rattle.dimacs.specs.Frames.{frames-of}
 use Rattle.dimacs.specs.declared.TextFault.{TextFault}
 use Rattle.dimacs.specs.declared.TextFault.the-variants.{NoProblemLine, SecondProblemLine, MalformedWord, PastDeclared, VariableTwice, LongClause}
 use Rattle.dimacs.specs.declared.TextFault.the-variants.{VarsOutOfRange, UnclosedClause, WrongClauseCount}
-use Rattle.dimacs_frames.specs.Yields.{words-left, yield-clause, yield-first, yields-into, yield-numbers, cursor-after}
+use Rattle.dimacs_frames.specs.Yields.{yields-into, yield-numbers, cursor-after}
 use Rattle.dimacs_frames.specs.Series.{Series, no-frame, then-frame}
 use Rattle.dimacs_frames.specs.declared.Cursor.{Cursor}
 use Rattle.dimacs_frames.specs.declared.Yield.{Yield}
@@ -57,30 +55,6 @@ module _ {entries entries′ : List Entry} {pool pool′ : List ℤ} {carried ca
 
 -- ---- the frames of a DIMACS text
 
--- a frame has words, so that its numbers are told from those where none is left
-abbrev Wordy : Yield → Type 0
-Wordy (Frame n d) = 0 < n
-Wordy NoneLeft = Unit {0}
-Wordy (Faulty f) = Unit {0}
-Wordy NoBuffer = Unit {0}
-Wordy NoId = Unit {0}
-
-either-wordy : (b : Bool) (x y : Yield × List ℤ) → Wordy (x .0) → Wordy (y .0) → Wordy (cond b x y .0)
-either-wordy true x y t f = t
-either-wordy false x y t f = f
-
-clause-wordy : (id : ℕ) (o : Option ClosedClause) → Wordy (yield-clause id o .0)
-clause-wordy id none = tt
-clause-wordy id (some x) = either-wordy (ltb id 2147483647) _ _ (omega arith) tt
-
-first-wordy : (text : List ℕ) (r : Read Cnf) → Wordy (yield-first text r .0)
-first-wordy text (faulty f) = tt
-first-wordy text (sound x) = clause-wordy 0 (next-clause [] (body-words text))
-
-yields-wordy : (text : List ℕ) (c : Cursor) (frame : List ℤ) → Wordy (yields-into text c frame .0)
-yields-wordy text c frame = either-wordy (ltb (length frame) 258) _ _ tt
-    (either-wordy (eqb (c .id) 0) _ _ (first-wordy text (read-text text)) (clause-wordy (c .id) (next-clause [] (words-left text (c .at)))))
-
 -- no fault is told as 0
 fault-told : (f : TextFault) → fault-numbers f .0 ≡ 0 → ⊥
 fault-told (NoProblemLine at) e = omega arith
@@ -107,12 +81,11 @@ series-of : {text : List ℕ} {c : Cursor} {fs : List (List ℤ)} {r : Numbers} 
 series-of {text} {c} (last-call {c′} {frame} {frame′} {r} e h unframed) =
     let y = yields-into text c frame .0 in (
       y,
+      -- a frame has words, so that its numbers are told from those where none is left
       no-frame frame y frame′ (ap (λ (ws : List ℤ). (y, ws)) (e .handed-out)) h (λ n d q.
-          unframed (
-            e .told .0 ∙ ap (λ (x : Yield). yield-numbers x .0) q,
-            subst (λ (k : ℕ). 0 < k) (sym (e .told .1 ∙ ap (λ (x : Yield). yield-numbers x .1) q))
-                (subst Wordy q (yields-wordy text c frame)),
-          )),
+          let words = e .told .1 ∙ ap (λ (x : Yield). yield-numbers x .1) q in
+          let f = handing.handed-out text c frame frame′ n d (ap₂ (λ (x : Yield) (ws : List ℤ). (x, ws)) (sym q) (e .handed-out)) in
+          unframed (e .told .0 ∙ ap (λ (x : Yield). yield-numbers x .0) q, omega (arith, words, f .worded))),
       e .told,
     )
 series-of {text} {c} (first-call {c′} {frame} {frame′} {r} e f more) =
