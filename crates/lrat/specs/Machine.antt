@@ -178,6 +178,10 @@ line-code s r = cond (eqb (r .line .phase) 4) (addition-code s r) (cond (eqb (r 
 abbrev pub is-addition : Reading → Bool
 is-addition r = eqb (r .line .phase) 4
 
+-- the answer is known behind a line that is refused, and behind the empty clause
+abbrev pub is-last : ℕ → Reading → Bool
+is-last code r = not (eqb code 0) || (is-addition r && null (r .lits))
+
 -- the state behind a line that passed
 abbrev pub state-behind : State → Reading → State
 state-behind s r = cond (is-addition r) (next s (LEARN (r .line .id) (r .lits) [])) s
@@ -215,18 +219,16 @@ word-taken m t = record { word = between; reading = t .reading; lines = m .lines
 unfoldable pub end-word : Session → Session
 end-word m = word-taken m (cond (is-word (m .word)) (take-word (m .state) (said (m .word)) (m .reading)) (step (m .state) (m .reading)))
 
--- the line ends with this number of refusal, or 0: the answer is known where it is refused, or is the empty clause
+-- the line ends with this number of refusal, or 0
 abbrev pub line-closed : Session → ℕ → Session
-line-closed m code =
-    let ends = not (eqb code 0) || (is-addition (m .reading) && null (m .reading .lits)) in
-    record {
-      word = at-start;
-      reading = fresh (m .reading);
-      lines = one-more (m .lines);
-      over = ends;
-      code = code;
-      state = cond ends (emptied (m .state)) (state-behind (m .state) (m .reading));
-    }
+line-closed m code = record {
+  word = at-start;
+  reading = fresh (m .reading);
+  lines = one-more (m .lines);
+  over = is-last code (m .reading);
+  code = code;
+  state = cond (is-last code (m .reading)) (emptied (m .state)) (state-behind (m .state) (m .reading));
+}
 
 abbrev pub close-line : Session → Session
 close-line m = line-closed m (line-code (m .state) (m .reading))

@@ -1,0 +1,72 @@
+-- What is kept of a line beside the tables, and what is told of its words.
+use mathlib.Core.Path.{_≡_}
+use mathlib.Core.Bool.{Bool, true}
+use mathlib.Core.List.{List}
+use Prim.Native.Nat.{ℕ, _≤_}
+use lib.IntN.{ℤ, negℤ}
+use lib.ListN.{length, take}
+use Rattle.rules.specs.Lists.{all-pass}
+use Rattle.rules.specs.Terms.{Literals, State, in-range, holds, everything}
+use Rattle.rules.specs.Propagation.{among, also}
+use Rattle.rules.specs.Propagation as paper
+use Rattle.lit_sets.specs.Words.{set-of}
+use Rattle.table.specs.Spelled.{Row, spelled, Fit}
+use Rattle.table.specs.declared.Table.{Table}
+use Rattle.text_numbers.specs.Told.{with-sign}
+use Rattle.lrat.specs.Machine.{Reading, Step, step, in-phase, take-literal, take-hint, take-deleted}
+use Rattle.lrat.specs.declared.ProofLine.{ProofLine}
+use Rattle.lrat_line.specs.declared.Looked.{Looked}
+use Rattle.lrat_line.specs.declared.Looked.the-variants.{Conflict, Forced, Bad}
+use Rattle.lrat_line.specs.declared.Taken.{Taken}
+
+-- ---- what is kept
+
+-- the literals are the first of a buffer of 256, and in range of 2,048 variables
+pub record Keeps (l : ProofLine) (lits : List ℤ) : Type 0 where
+  pub long : length lits ≡ 256
+  pub few : l .count ≤ 256
+  pub ranged : all-pass (in-range 2048) (take (l .count) lits) ≡ true
+
+abbrev pub read-with : ProofLine → List ℤ → Literals → Reading
+read-with l lits F = record { line = l; lits = lits; falses = F }
+
+-- what a line, the buffer and the two arrays hold
+abbrev pub reading : ProofLine → List ℤ → List ℕ → List ℕ → Reading
+reading l lits plus minus = read-with l (take (l .count) lits) (set-of plus minus)
+
+-- ---- literals
+
+pub record LiteralTaken (vars : ℕ) (minus : Bool) (v : ℕ) (l : ProofLine) (lits : List ℤ) (r : ProofLine) (lits′ : List ℤ) : Type 0 where
+  pub keeps : Keeps r lits′
+  pub taken : (F : Literals) → read-with r (take (r .count) lits′) F ≡ take-literal vars (with-sign minus v) (read-with l (take (l .count) lits) F)
+
+abbrev pub LiteralsEnded : ProofLine → List ℤ → ProofLine → List ℕ → List ℕ → Type 0
+LiteralsEnded l lits r plus′ minus′ = (r ≡ in-phase 3 l) × (set-of plus′ minus′ ≡ holds (take (l .count) lits))
+
+-- ---- hints
+
+-- what the paper says of a hint where F is false, and what is false after it
+abbrev pub HintRead : paper.Looked → Literals → Looked → Literals → Type 0
+HintRead q F Conflict G = (q ≡ paper.conflict) × (G ≡ F)
+HintRead q F Forced G = (u : ℤ) × (q ≡ paper.forced u) × (G ≡ also (negℤ u) F)
+HintRead q F Bad G = (q ≡ paper.bad) × (G ≡ F)
+
+pub record HintTaken (s : State) (v : ℕ) (l : ProofLine) (plus minus : List ℕ) (r : ProofLine) (plus′ minus′ : List ℕ) : Type 0 where
+  pub counted : r .count ≡ l .count
+  pub taken : (lits : List ℤ) → read-with r lits (set-of plus′ minus′) ≡ take-hint (among (everything s)) v (read-with l lits (set-of plus minus))
+
+-- ---- deleted ids
+
+pub record DeletedTaken (t : Table) (rows : List Row) (pool : List ℤ) (stack : List ℕ) (v : ℕ) (l : ProofLine) (r : Taken) (rows′ : List Row) : Type 0 where
+  pub fit : Fit (r .table) rows′ pool stack
+  pub counted : r .line .count ≡ l .count
+  pub taken : (lits : List ℤ) (F : Literals)
+      → step (spelled (r .table) rows′ pool stack) (read-with (r .line) lits F) ≡ take-deleted (spelled t rows pool stack) v (read-with l lits F)
+
+-- ---- any word
+
+-- the tables, the line and what goes with it after a word are this step of the machine
+pub record Takes (whole : Step) (r : Taken) (rows′ : List Row) (pool : List ℤ) (stack : List ℕ) (lits′ : List ℤ) (plus′ minus′ : List ℕ) : Type 0 where
+  pub fit : Fit (r .table) rows′ pool stack
+  pub keeps : Keeps (r .line) lits′
+  pub taken : step (spelled (r .table) rows′ pool stack) (reading (r .line) lits′ plus′ minus′) ≡ whole
