@@ -17,7 +17,7 @@ use Rattle.table.specs.Spelled.{Row, spelled, Fit}
 use Rattle.table.specs.declared.Table.{Table}
 use Rattle.lrat.specs.Machine.{line-code, is-last, emptied, state-behind}
 use Rattle.lrat.specs.declared.ProofLine.{ProofLine}
-use Rattle.lrat_line.specs.Lines.{read-with}
+use Rattle.lrat.specs.Kept.{read-with}
 use Rattle.lrat_close.specs.declared.LineClosed.{LineClosed}
 
 -- a check of room, which fails with 12 or 13

@@ -7,7 +7,7 @@ ghost use lib.ListN.{length, take};
 ghost use Rattle.rules.specs.Terms.{Literals, State};
 ghost use Rattle.table.specs.Spelled.{Fit, spelled};
 ghost use Rattle.lrat.specs.Machine as machine;
-ghost use Rattle.lrat_line.specs.Lines.{Keeps, read-with};
+ghost use Rattle.lrat.specs.Kept.{Keeps, read-with};
 ghost use Rattle.lrat_close.specs.Closes.{code-of, empty-table, Closes};
 use lrat::ProofLine;
 use rules::Check;

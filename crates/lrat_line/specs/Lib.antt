@@ -1,2 +1,2 @@
--- What is kept of a line, and what is told of its words.
+-- What is told of the words of a line.
 pub mod Lines

@@ -1,4 +1,4 @@
--- What is kept of a line beside the tables, and what is told of its words.
+-- What is told of the words of a line.
 use mathlib.Core.Path.{_≡_}
 use mathlib.Core.Bool.{Bool, true}
 use mathlib.Core.List.{List}
@@ -13,22 +13,12 @@ use Rattle.lit_sets.specs.Words.{set-of}
 use Rattle.table.specs.Spelled.{Row, spelled, Fit}
 use Rattle.table.specs.declared.Table.{Table}
 use Rattle.text_numbers.specs.Told.{with-sign}
+use Rattle.lrat.specs.Kept.{Keeps, read-with}
 use Rattle.lrat.specs.Machine.{Reading, Step, step, in-phase, take-literal, take-hint, take-deleted}
 use Rattle.lrat.specs.declared.ProofLine.{ProofLine}
 use Rattle.lrat_line.specs.declared.Looked.{Looked}
 use Rattle.lrat_line.specs.declared.Looked.the-variants.{Conflict, Forced, Bad}
 use Rattle.lrat_line.specs.declared.Taken.{Taken}
-
--- ---- what is kept
-
--- the literals are the first of a buffer of 256, and in range of 2,048 variables
-pub record Keeps (l : ProofLine) (lits : List ℤ) : Type 0 where
-  pub long : length lits ≡ 256
-  pub few : l .count ≤ 256
-  pub ranged : all-pass (in-range 2048) (take (l .count) lits) ≡ true
-
-abbrev pub read-with : ProofLine → List ℤ → Literals → Reading
-read-with l lits F = record { line = l; lits = lits; falses = F }
 
 -- what a line, the buffer and the two arrays hold
 abbrev pub reading : ProofLine → List ℤ → List ℕ → List ℕ → Reading
