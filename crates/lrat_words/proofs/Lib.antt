@@ -1,1 +1,2 @@
--- Empty for now.
+-- Bytes of a word, one more at a time.
+pub mod Pushing

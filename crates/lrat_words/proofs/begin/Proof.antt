@@ -1,63 +1,52 @@
+use mathlib.Core.Path.{_≡_, refl, sym, _∙_}
+use mathlib.Core.Bool.{true, false}
+use native.Mathlib.Omega.{arith}
 use borrow.Author.Needs.{needs}
+use borrow.Author.Tests.{ne-eqb}
+use Rattle.text_numbers.specs.Numbers.{is-decimal}
+use Rattle.text_numbers.proofs.Saying.{decimal-bounds}
 use Rattle.lrat_words.proofs.begin.Statement.{statement}
 use Rattle.lrat_words.proofs.begin.Tie as tie
-use Rattle.lrat_words.proofs.begin.Reads as reads
-use Rattle.lrat_words.proofs.begin.Lts as lts
-use Rattle.lrat_words.proofs.of_kind.Reads as of-kind-reads
-use Rattle.text_numbers.proofs.is_digit.Reads as is-digit-reads
-use Rattle.text_numbers.proofs.wide.Reads as wide-reads
 
--- src/lib.rt:64:8
-is-digit-requires : tie.Need-is-digit-requires
-is-digit-requires c κs = search needs
+-- a digit
+module _ (c : tie.After-wide) where
+  digit : is-decimal (c .before .before .before .args .b) ≡ true
+  digit = sym (c .before .before .is-digit .ensures) ∙ c .before .if1 .taken
 
--- src/lib.rt:68:20
-wide-requires : tie.Need-wide-requires
-wide-requires c κs = search needs
+-- no digit
+no-digit : (c : tie.Else1) → is-decimal (c .before .before .args .b) ≡ false
+no-digit c = sym (c .before .is-digit .ensures) ∙ c .if1 .left
 
--- src/lib.rt:68:20
 sub-t4 : tie.Need-sub-t4
-sub-t4 c = ?
+sub-t4 c = let e = c .wide .ensures in omega (arith, decimal-bounds (c .before .before .before .args .b) (digit c))
 
--- src/lib.rt:65:9
 returns : tie.Need-returns
-returns c = ?
+returns c = let e = c .wide .ensures in rw (digit c, e) refl
 
--- src/lib.rt:72:9
-of-kind-requires : tie.Need-of-kind-requires
-of-kind-requires c κs = search needs
-
--- src/lib.rt:72:9
 returns-2 : tie.Need-returns-2
-returns-2 c = ?
+returns-2 c = rw (no-digit (c .before .before), c .of-kind .ensures, c .before .if2 .taken) refl
 
--- src/lib.rt:75:9
-of-kind-requires-2 : tie.Need-of-kind-requires-2
-of-kind-requires-2 c κs = search needs
-
--- src/lib.rt:75:9
 returns-3 : tie.Need-returns-3
-returns-3 c = ?
+returns-3 c =
+    let b = c .before .before .before .before .before .args .b in
+    rw (no-digit (c .before .before .before), c .of-kind2 .ensures, c .before .if3 .taken) refl
 
--- src/lib.rt:77:5
-of-kind-requires-3 : tie.Need-of-kind-requires-3
-of-kind-requires-3 c κs = search needs
-
--- src/lib.rt:61:1
 returns-4 : tie.Need-returns-4
-returns-4 c = ?
+returns-4 c =
+    let b = c .before .before .before .before .before .args .b in
+    rw (no-digit (c .before .before .before), ne-eqb b 45 (c .before .before .if2 .left), ne-eqb b 100 (c .before .if3 .left), c .of-kind3 .ensures) refl
 
 pub begin-spec : {M : Type 1} → statement M
 begin-spec =
     tie.close
     (tie.spec
-    is-digit-requires
-    wide-requires
+    (λ c κs. search needs)  -- is-digit-requires
+    (λ c κs. search needs)  -- wide-requires
     sub-t4
     returns
-    of-kind-requires
+    (λ c κs. search needs)  -- of-kind-requires
     returns-2
-    of-kind-requires-2
+    (λ c κs. search needs)  -- of-kind-requires-2
     returns-3
-    of-kind-requires-3
+    (λ c κs. search needs)  -- of-kind-requires-3
     returns-4)

@@ -1,49 +1,32 @@
+use mathlib.Core.Path.{_≡_, refl, sym, _∙_}
+use mathlib.Core.Bool.{true}
+use native.Mathlib.Omega.{arith}
 use borrow.Author.Needs.{needs}
+use Rattle.text_numbers.specs.Numbers.{is-decimal}
+use Rattle.text_numbers.proofs.Saying.{decimal-bounds}
 use Rattle.lrat_words.proofs.digit_or.Statement.{statement}
 use Rattle.lrat_words.proofs.digit_or.Tie as tie
-use Rattle.lrat_words.proofs.digit_or.Reads as reads
-use Rattle.lrat_words.proofs.digit_or.Lts as lts
-use Rattle.lrat_words.proofs.grown.Reads as grown-reads
-use Rattle.lrat_words.proofs.of_kind.Reads as of-kind-reads
-use Rattle.text_numbers.proofs.is_digit.Reads as is-digit-reads
-use Rattle.text_numbers.proofs.wide.Reads as wide-reads
 
--- src/lib.rt:84:8
-is-digit-requires : tie.Need-is-digit-requires
-is-digit-requires c κs = search needs
+digit : (c : tie.After-wide) → is-decimal (c .before .before .before .args .b) ≡ true
+digit c = sym (c .before .before .is-digit .ensures) ∙ c .before .if1 .taken
 
--- src/lib.rt:85:17
-wide-requires : tie.Need-wide-requires
-wide-requires c κs = search needs
-
--- src/lib.rt:85:17
 sub-d : tie.Need-sub-d
-sub-d c = ?
+sub-d c = let e = c .wide .ensures in omega (arith, decimal-bounds (c .before .before .before .args .b) (digit c))
 
--- src/lib.rt:89:20
-grown-requires : tie.Need-grown-requires
-grown-requires c κs = search needs
-
--- src/lib.rt:86:9
 returns : tie.Need-returns
-returns c = ?
+returns c = let e = c .before .wide .ensures in rw (digit (c .before), c .grown .ensures, e) refl
 
--- src/lib.rt:92:5
-of-kind-requires : tie.Need-of-kind-requires
-of-kind-requires c κs = search needs
-
--- src/lib.rt:81:1
 returns-2 : tie.Need-returns-2
-returns-2 c = ?
+returns-2 c = rw (sym (c .before .before .is-digit .ensures) ∙ c .before .if1 .left, c .of-kind .ensures) refl
 
 pub digit-or-spec : {M : Type 1} → statement M
 digit-or-spec =
     tie.close
     (tie.spec
-    is-digit-requires
-    wide-requires
+    (λ c κs. search needs)  -- is-digit-requires
+    (λ c κs. search needs)  -- wide-requires
     sub-d
-    grown-requires
+    (λ c κs. search needs)  -- grown-requires
     returns
-    of-kind-requires
+    (λ c κs. search needs)  -- of-kind-requires
     returns-2)

@@ -1,49 +1,39 @@
+use mathlib.Core.Path.{_≡_, refl, sym, _∙_}
+use mathlib.Core.Bool.{true}
+use native.Mathlib.Omega.{arith}
 use borrow.Author.Needs.{needs}
+use borrow.Author.Tests.{lt-ltb, le-ltb}
+use Rattle.rules.proofs.Lists.{not-true, not-false}
+use Rattle.lrat.specs.Machine.{push}
 use Rattle.lrat_words.proofs.push.Statement.{statement}
 use Rattle.lrat_words.proofs.push.Tie as tie
-use Rattle.lrat_words.proofs.push.Reads as reads
-use Rattle.lrat_words.proofs.push.Lts as lts
-use Rattle.lrat_words.proofs.begin.Reads as begin-reads
-use Rattle.lrat_words.proofs.digit_or.Reads as digit-or-reads
-use Rattle.lrat_words.proofs.is_word.Reads as is-word-reads
-use Rattle.lrat_words.proofs.of_kind.Reads as of-kind-reads
 
--- src/lib.rt:109:9
-is-word-requires : tie.Need-is-word-requires
-is-word-requires c κs = search needs
-
--- src/lib.rt:110:9
-begin-requires : tie.Need-begin-requires
-begin-requires c κs = search needs
-
--- src/lib.rt:110:9
 returns : tie.Need-returns
-returns c = ?
+unfolding push
+returns c = let e = sym (c .before .before .is-word .ensures) ∙ not-true (c .before .if1 .taken) in rw (e, c .begin .ensures) refl
 
--- src/lib.rt:113:9
-digit-or-requires : tie.Need-digit-or-requires
-digit-or-requires c κs = search needs
-
--- src/lib.rt:113:9
 returns-2 : tie.Need-returns-2
-returns-2 c = ?
+unfolding push
+returns-2 c =
+    let w = c .before .before .before .before .before .args .w in
+    let e = sym (c .before .before .before .before .is-word .ensures) ∙ not-false (c .before .before .before .if1 .left) in
+    rw (e, lt-ltb (w .kind) 3 (c .before .if2 .taken), c .digit-or .ensures) refl
 
--- src/lib.rt:115:5
-of-kind-requires : tie.Need-of-kind-requires
-of-kind-requires c κs = search needs
-
--- src/lib.rt:106:1
 returns-3 : tie.Need-returns-3
-returns-3 c = ?
+unfolding push
+returns-3 c =
+    let w = c .before .before .before .before .before .args .w in
+    let e = sym (c .before .before .before .before .is-word .ensures) ∙ not-false (c .before .before .before .if1 .left) in
+    rw (e, le-ltb (w .kind) 3 (omega (arith, c .before .if2 .left)), c .of-kind .ensures) refl
 
 pub push-spec : {M : Type 1} → statement M
 push-spec =
     tie.close
     (tie.spec
-    is-word-requires
-    begin-requires
+    (λ c κs. search needs)  -- is-word-requires
+    (λ c κs. search needs)  -- begin-requires
     returns
-    digit-or-requires
+    (λ c κs. search needs)  -- digit-or-requires
     returns-2
-    of-kind-requires
+    (λ c κs. search needs)  -- of-kind-requires
     returns-3)

@@ -1,51 +1,25 @@
+-- The loop's invariant: the bytes before i are no blanks, and the word is what they made of it.
+use mathlib.Core.Path.{_≡_, sym, _∙_}
+use Prim.Native.Nat.{_-_}
+use native.Mathlib.Omega.{arith}
+use lib.ListN.{length}
+use borrow.Author.Needs.{needs}
+use Rattle.lrat_words.specs.Taken.{Pushed}
+use Rattle.lrat_words.proofs.Pushing.{pushed-none, pushed-more}
 use Rattle.lrat_words.proofs.take_bytes.Statement.{statement}
 use Rattle.lrat_words.proofs.take_bytes.Tie as tie
-use Rattle.lrat_words.proofs.take_bytes.Reads as reads
-use Rattle.lrat_words.proofs.take_bytes.Lts as lts
-use Rattle.lrat_words.proofs.push.Reads as push-reads
-use Rattle.text.proofs.is_blank.Reads as is-blank-reads
 
 abbrev Inv-loop : tie.InvT-loop
-Inv-loop part from i₀ word₀ i word = ?
+Inv-loop part from i₀ word₀ i word = Pushed part from word₀ i word
 
 abbrev μ-loop : tie.MeasureT-loop
-μ-loop part from i₀ word₀ i word = ?
+μ-loop part from i₀ word₀ i word = length part - i
 
--- src/lib.rt:133:5
-loop-holds : tie.Need-loop-holds Inv-loop μ-loop
-loop-holds c = ?
-
--- src/lib.rt:134:17
-shared-slice-read-b : tie.Need-shared-slice-read-b Inv-loop μ-loop
-shared-slice-read-b c = ?
-
--- src/lib.rt:135:12
-is-blank-requires : tie.Need-is-blank-requires Inv-loop μ-loop
-is-blank-requires c κs = ?
-
--- src/lib.rt:138:9
-push-requires : tie.Need-push-requires Inv-loop μ-loop
-push-requires c κs = ?
-
--- src/lib.rt:139:9
-add-i : tie.Need-add-i Inv-loop μ-loop
-add-i c = ?
-
--- src/lib.rt:133:5
-loop-less : tie.Need-loop-less Inv-loop μ-loop
-loop-less c = ?
-
--- src/lib.rt:133:5
 loop-again : tie.Need-loop-again Inv-loop μ-loop
-loop-again c = ?
-
--- src/lib.rt:127:1
-returns : tie.Need-returns Inv-loop μ-loop
-returns c = ?
-
--- src/lib.rt:127:1
-returns-2 : tie.Need-returns-2 Inv-loop μ-loop
-returns-2 c = ?
+loop-again c =
+    let b = c .before .before in
+    let x = b .before .before in
+    pushed-more (x .before .loop .inv) (x .loop-test .taken) (sym (b .is-blank .ensures) ∙ c .before .if1 .left) (c .push .ensures)
 
 pub take-bytes-spec : {M : Type 1} → statement M
 take-bytes-spec =
@@ -53,12 +27,12 @@ take-bytes-spec =
     (tie.spec
     Inv-loop
     μ-loop
-    loop-holds
-    shared-slice-read-b
-    is-blank-requires
-    push-requires
-    add-i
-    loop-less
+    (λ c. pushed-none _ _ _ (c .before .pre))  -- loop-holds
+    (λ c. search needs)  -- shared-slice-read-b
+    (λ c κs. search needs)  -- is-blank-requires
+    (λ c κs. search needs)  -- push-requires
+    (λ c. search needs)  -- add-i
+    (λ c. search needs)  -- loop-less
     loop-again
-    returns
-    returns-2)
+    (λ c. record { pushed = c .before .loop .inv; stops = λ h. absurd (omega (arith, c .loop-test .left)) })  -- returns
+    (λ c. record { pushed = c .before .before .before .before .loop .inv; stops = λ h. sym (c .before .is-blank .ensures) ∙ c .if1 .taken }))  -- returns-2
