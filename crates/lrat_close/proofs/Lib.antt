@@ -1,1 +1,2 @@
--- Empty for now.
+-- The questions that a line is asked (Codes), and the table opened empty (Emptying).
+pub mod Codes

@@ -7,11 +7,11 @@ ghost use lib.ListN.{length, take};
 ghost use Rattle.rules.specs.Terms.{Literals, State};
 ghost use Rattle.table.specs.Spelled.{Fit, spelled};
 ghost use Rattle.lrat.specs.Machine as machine;
+ghost use Rattle.lrat.specs.Checking.{ask-room};
 ghost use Rattle.lrat.specs.Kept.{Keeps, read-with};
-ghost use Rattle.lrat_close.specs.Closes.{code-of, empty-table, Closes};
+ghost use Rattle.lrat_close.specs.Closes.{empty-table, Closes};
 use lrat::ProofLine;
 use rules::Check;
-use rules::Fault;
 use table::Row;
 use table::Table;
 
@@ -46,17 +46,21 @@ fn addition_fault(t: Table, l: ProofLine, lits: &[i32]) -> u32
     least(l.noted, 37)
 }
 
-// 12 or 13 as a number, 0 for a check that passed.
-fn code_of(check: Check) -> u32
-    ensures { λ r. ⌜ r ≡ code-of check ⌝ }
+// 12, then 13: room for a clause of n literals, by the counts alone.
+fn room_code(rows: &[Row], pool: &[i32], stack: &[u32], t: Table, n: usize) -> u32
+    requires { ⌜ Fit t (now rows) (now pool) (now stack) × (n ≤ 256) ⌝ }
+    ensures { λ r. ⌜ ((c : List ℤ) → length c ≡ n → r ≡ ask-room (spelled t (now (rows .entry)) (now (pool .entry)) (now (stack .entry))) c 0) ⌝ }
 {
-    match check {
-        Check::Passed => 0,
-        Check::Failed(fault) => match fault {
-            Fault::NoEntry => 12,
-            _ => 13,
-        },
+    let count = t.count as usize;
+    let most = t.entries as usize + t.gone as usize;
+    let words = t.words as usize + n;
+    if most <= count {
+        return 12;
     }
+    if pool.len() < words {
+        return 13;
+    }
+    0
 }
 
 fn addition_code(
@@ -75,7 +79,7 @@ fn addition_code(
     if fault < 37 {
         return fault;
     }
-    let spare = code_of(judge_checks::free(rows, pool, stack, t, l.count as usize));
+    let spare = room_code(rows, pool, stack, t, l.count as usize);
     if spare != 0 {
         return spare;
     }

@@ -1,91 +1,77 @@
+use mathlib.Core.Path.{_≡_, refl, sym, _∙_}
+use mathlib.Core.Bool.{true}
+use mathlib.Core.List.{List}
+use Prim.Native.Nat.{ℕ, _≤_, _<_}
+use native.Mathlib.Omega.{arith}
+use lib.IntN.{ℤ}
+use lib.ListN.{length, take}
+use lib.Seq.{length-take-le}
 use borrow.Author.Needs.{needs}
+use Rattle.rules.specs.Terms.{is-clause}
+use Rattle.rules.proofs.Checks.{flaw-clause}
+use Rattle.lrat_close.proofs.Codes.{not-clause, no-id, large-id, bad-clause, old-id, new-id}
 use Rattle.lrat_close.proofs.addition_fault.Statement.{statement}
 use Rattle.lrat_close.proofs.addition_fault.Tie as tie
-use Rattle.lrat_close.proofs.addition_fault.Reads as reads
-use Rattle.lrat_close.proofs.addition_fault.Lts as lts
-use Rattle.lit_clause.proofs.flaw.Reads as flaw-reads
-use Rattle.lrat_close.proofs.least.Reads as least-reads
 
--- src/lib.rt:33:9
-least-requires : tie.Need-least-requires
-least-requires c κs = search needs
+-- the literals of the line, whose id is one
+module _ (x : tie.After-flaw-arg) where
+  abbrev s : tie.Start
+  s = x .before .before .before .before .before .before .before
 
--- src/lib.rt:33:9
-returns : tie.Need-returns
-returns c = ?
+  abbrev lits : List ℤ
+  lits = take (s .args .l .count) (s .args .lits .now)
 
--- src/lib.rt:36:9
-least-requires-2 : tie.Need-least-requires-2
-least-requires-2 c κs = search needs
+  kept : length lits ≡ s .args .l .count
+  kept = length-take-le (s .args .l .count) (s .args .lits .now) (omega (arith, s .pre .1 .long, s .pre .1 .few))
 
--- src/lib.rt:36:9
-returns-2 : tie.Need-returns-2
-returns-2 c = ?
+  low : 0 < s .args .l .id
+  low = omega (arith, x .before .before .before .before .before .if1 .left)
 
--- src/lib.rt:38:13
-cast-n : tie.Need-cast-n
-cast-n c = search needs
+  high : s .args .l .id ≤ 2147483647
+  high = omega (arith, x .before .before .before .if2 .left)
 
--- src/lib.rt:39:33
-cast-flaw : tie.Need-cast-flaw
-cast-flaw c = search needs
+-- they are a clause
+good : (y : tie.After-enum-told2) → let x = y .before .before .before in is-clause (s x .args .t .vars) (lits x) ≡ true
+good y =
+    let x = y .before .before .before in
+    flaw-clause _ 0 (lits x) (omega (arith, kept x, s x .pre .1 .few)) (sym (y .before .before .flaw .ensures) ∙ y .enum-told2 .given .1)
 
--- src/lib.rt:39:50
-slice-aggregate-flaw : tie.Need-slice-aggregate-flaw
-slice-aggregate-flaw c = ?
-
--- src/lib.rt:39:9
-flaw-requires : tie.Need-flaw-requires
-flaw-requires c κs = ?
-
--- src/lib.rt:41:9
-enum-told : tie.Need-enum-told
-enum-told c = search needs
-
--- src/lib.rt:41:9
-least-requires-3 : tie.Need-least-requires-3
-least-requires-3 c κs = search needs
-
--- src/lib.rt:41:9
 returns-3 : tie.Need-returns-3
-returns-3 c = ?
+returns-3 c t F v h =
+    let x = c .before .before .before .before in
+    rw (c .least3 .ensures)
+    (bad-clause t _ _ F (low x) (high x)
+    (rw v (not-clause _ _ (sym (c .before .before .before .flaw .ensures) ∙ c .before .enum-told .given .1))))
 
-enum-told-2 : tie.Need-enum-told-2
-enum-told-2 c = search needs
-
--- src/lib.rt:44:9
-least-requires-4 : tie.Need-least-requires-4
-least-requires-4 c κs = search needs
-
--- src/lib.rt:44:9
 returns-4 : tie.Need-returns-4
-returns-4 c = ?
+returns-4 c t F v h =
+    let y = c .before .before .before .before in
+    let x = y .before .before .before in
+    rw (c .least4 .ensures) (old-id t _ _ F (low x) (high x) (rw v (good y)) (rw h (c .before .if3 .taken)))
 
--- src/lib.rt:46:5
-least-requires-5 : tie.Need-least-requires-5
-least-requires-5 c κs = search needs
-
--- src/lib.rt:27:1
 returns-5 : tie.Need-returns-5
-returns-5 c = ?
+returns-5 c t F v h =
+    let y = c .before .before .before .before in
+    let x = y .before .before .before in
+    rw (c .least5 .ensures) (new-id t _ _ F (low x) (high x) (rw v (good y)) (rw h (omega (arith, c .before .if3 .left))))
 
 pub addition-fault-spec : {M : Type 1} → statement M
 addition-fault-spec =
     tie.close
     (tie.spec
-    least-requires
-    returns
-    least-requires-2
-    returns-2
-    cast-n
-    cast-flaw
-    slice-aggregate-flaw
-    flaw-requires
-    enum-told
-    least-requires-3
+    (λ c κs. search needs)  -- least-requires
+    (λ c t F v h. rw (c .least .ensures) (no-id t _ _ F (c .before .if1 .taken)))  -- returns
+    (λ c κs. search needs)  -- least-requires-2
+    (λ c t F v h. rw (c .least2 .ensures) (large-id t _ _ F (c .before .if2 .taken)))  -- returns-2
+    (λ c. search needs)  -- cast-n
+    (λ c. search needs)  -- cast-flaw
+    (λ c. sym (kept c))  -- slice-aggregate-flaw
+    (λ c κs. (s c .pre .0, search needs, omega (arith, kept c, s c .pre .1 .few)))  -- flaw-requires
+    (λ c. search needs)  -- enum-told
+    (λ c κs. search needs)  -- least-requires-3
     returns-3
-    enum-told-2
-    least-requires-4
+    (λ c. search needs)  -- enum-told-2
+    (λ c κs. search needs)  -- least-requires-4
     returns-4
-    least-requires-5
+    (λ c κs. search needs)  -- least-requires-5
     returns-5)
