@@ -154,7 +154,7 @@ pub fn close_line(
     l: ProofLine,
     lits: &[i32],
 ) -> LineClosed
-    requires { ⌜ Fit t (now rows) (now pool) (now stack) × Keeps l (now lits) ⌝ }
+    requires { ⌜ Fit t (now rows) (now pool) (now stack) × Keeps l (now lits) × (31 ≤ l .noted) ⌝ }
     ensures { λ r. ⌜ Closes t (now (rows .entry)) (now (pool .entry)) (now (stack .entry)) l (now (lits .entry)) r (now (rows .exit)) (now (pool .exit)) ⌝ }
 {
     let code = line_code(rows, pool, stack, t, l, lits);

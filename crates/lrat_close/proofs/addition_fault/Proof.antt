@@ -40,29 +40,29 @@ returns-3 : tie.Need-returns-3
 returns-3 c t F v h =
     let x = c .before .before .before .before in
     rw (c .least3 .ensures)
-    (bad-clause t _ _ F (low x) (high x)
+    (bad-clause t (s x .args .l) (lits x) F (low x) (high x)
     (rw v (not-clause _ _ (sym (c .before .before .before .flaw .ensures) ∙ c .before .enum-told .given .1))))
 
 returns-4 : tie.Need-returns-4
 returns-4 c t F v h =
     let y = c .before .before .before .before in
     let x = y .before .before .before in
-    rw (c .least4 .ensures) (old-id t _ _ F (low x) (high x) (rw v (good y)) (rw h (c .before .if3 .taken)))
+    rw (c .least4 .ensures) (old-id t (s x .args .l) (lits x) F (low x) (high x) (rw v (good y)) (rw h (c .before .if3 .taken)))
 
 returns-5 : tie.Need-returns-5
 returns-5 c t F v h =
     let y = c .before .before .before .before in
     let x = y .before .before .before in
-    rw (c .least5 .ensures) (new-id t _ _ F (low x) (high x) (rw v (good y)) (rw h (omega (arith, c .before .if3 .left))))
+    rw (c .least5 .ensures) (new-id t (s x .args .l) (lits x) F (low x) (high x) (rw v (good y)) (rw h (omega (arith, c .before .if3 .left))))
 
 pub addition-fault-spec : {M : Type 1} → statement M
 addition-fault-spec =
     tie.close
     (tie.spec
     (λ c κs. search needs)  -- least-requires
-    (λ c t F v h. rw (c .least .ensures) (no-id t _ _ F (c .before .if1 .taken)))  -- returns
+    (λ c t F v h. rw (c .least .ensures) (no-id t (c .before .before .before .args .l) _ F (c .before .if1 .taken)))  -- returns
     (λ c κs. search needs)  -- least-requires-2
-    (λ c t F v h. rw (c .least2 .ensures) (large-id t _ _ F (c .before .if2 .taken)))  -- returns-2
+    (λ c t F v h. rw (c .least2 .ensures) (large-id t (c .before .before .before .before .before .args .l) _ F (c .before .if2 .taken)))  -- returns-2
     (λ c. search needs)  -- cast-n
     (λ c. search needs)  -- cast-flaw
     (λ c. sym (kept c))  -- slice-aggregate-flaw

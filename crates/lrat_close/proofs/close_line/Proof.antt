@@ -1,89 +1,116 @@
+use mathlib.Core.Path.{_≡_, refl, sym, _∙_}
+use mathlib.Core.Bool.{false}
+use mathlib.Core.List.{List, []}
+use native.Mathlib.Omega.{arith}
+use lib.IntN.{ℤ}
+use lib.ListN.{length, take}
+use lib.Seq.{length-take-le}
 use borrow.Author.Needs.{needs}
+use borrow.Author.Tests.{ne-eqb}
+use Rattle.rules.specs.Terms.{Literals, State}
+use Rattle.table.specs.Spelled.{spelled}
+use Rattle.table.proofs.Readers.{count-held, gone-most, words-held}
+use Rattle.table_write.specs.Moved.{NewClause}
+use Rattle.lrat.specs.Kept.{read-with}
+use Rattle.lrat.specs.Machine.{line-code, is-last, no-literal}
+use Rattle.lrat_close.proofs.Codes.{goes-on, added}
+use Rattle.lrat_close.proofs.Emptying.{emptied-fit, emptied-spelled}
 use Rattle.lrat_close.proofs.close_line.Statement.{statement}
 use Rattle.lrat_close.proofs.close_line.Tie as tie
-use Rattle.lrat_close.proofs.close_line.Reads as reads
-use Rattle.lrat_close.proofs.close_line.Lts as lts
-use Rattle.lrat_close.proofs.emptied.Reads as emptied-reads
-use Rattle.lrat_close.proofs.is_last.Reads as is-last-reads
-use Rattle.lrat_close.proofs.line_code.Reads as line-code-reads
-use Rattle.table_write.proofs.append.Reads as append-reads
 
--- src/lib.rt:156:9
-line-code-requires : tie.Need-line-code-requires
-line-code-requires c κs = search needs
+module _ (x : tie.Start) where
+  abbrev state : State
+  state = spelled (x .args .t) (x .args .rows .now) (x .args .pool .now) (x .args .stack .now)
 
--- src/lib.rt:157:8
-is-last-requires : tie.Need-is-last-requires
-is-last-requires c κs = search needs
+  abbrev lits : List ℤ
+  lits = take (x .args .l .count) (x .args .lits .now)
 
--- src/lib.rt:159:20
-emptied-requires : tie.Need-emptied-requires
-emptied-requires c κs = search needs
+  kept : length lits ≡ x .args .l .count
+  kept = length-take-le (x .args .l .count) (x .args .lits .now) (omega (arith, x .pre .1 .long, x .pre .1 .few))
 
--- src/lib.rt:158:9
-same-length : tie.Need-same-length
-same-length c = search needs
-
--- src/lib.rt:158:9
-same-length-2 : tie.Need-same-length-2
-same-length-2 c = search needs
-
--- src/lib.rt:158:9
 returns : tie.Need-returns
-returns c = ?
+returns c =
+    let k = c .before .before in
+    let x = k .before .before .before .before .before in
+    record {
+      fit = rw (c .emptied .ensures) (emptied-fit (x .pre .0) _ _ refl refl);
+      coded = λ F. k .before .line-code .ensures F;
+      known = λ F. sym (c .before .if1 .taken) ∙ k .is-last .ensures (lits x) F (kept x);
+      state = λ F. rw (c .emptied .ensures) (emptied-spelled (x .pre .0) (x .args .rows .now) _ refl);
+    }
 
--- src/lib.rt:166:17
-cast-n : tie.Need-cast-n
-cast-n c = search needs
+-- the line passed, and is not the last
+module _ (c : tie.Else1) where
+  abbrev start : tie.Start
+  start = c .before .before .before .before .before .before
 
--- src/lib.rt:167:68
-slice-aggregate-append : tie.Need-slice-aggregate-append
-slice-aggregate-append c = ?
+  passes : line-code (state start) (read-with (start .args .l) (lits start) no-literal) ≡ 0
+  passes =
+      let r = read-with (start .args .l) (lits start) no-literal in
+      sym (c .before .before .line-code .ensures no-literal) ∙ goes-on _ r (sym (c .before .is-last .ensures (lits start) no-literal (kept start)) ∙ c .if1 .left)
 
--- src/lib.rt:167:9
+  not-last : (F : Literals) → false ≡ is-last (c .before .before .line-code .result) (read-with (start .args .l) (lits start) F)
+  not-last F = sym (c .if1 .left) ∙ c .before .is-last .ensures (lits start) F (kept start)
+
+-- it is a new clause, and there is room for it
+new-clause : (c : tie.Then2) → let x = start (c .before .before) in NewClause (x .args .t) (x .args .pool .now) (x .args .l .id) (lits x)
+new-clause c =
+    let e = c .before .before in
+    let x = start e in
+    let f = x .pre .0 in
+    let p = added (state x) (x .args .l) (lits x) no-literal (x .pre .2) (c .if2 .taken) (passes e) in
+    record {
+      entry = omega (arith, p .entry, count-held f, gone-most f);
+      words = omega (arith, p .words, words-held f);
+      new = (p .new, p .small);
+      clause = p .clause;
+    }
+
 append-requires : tie.Need-append-requires
-append-requires c κs = ?
+append-requires c κs =
+    let t = c .before .before .before .before in
+    (start (t .before .before) .pre .0, new-clause t, omega arith)
 
--- src/lib.rt:145:1
-same-length-3 : tie.Need-same-length-3
-same-length-3 c = search needs
-
--- src/lib.rt:145:1
-same-length-4 : tie.Need-same-length-4
-same-length-4 c = search needs
-
--- src/lib.rt:145:1
 returns-2 : tie.Need-returns-2
-returns-2 c = ?
+returns-2 c =
+    let a = c .before .before in
+    let t = a .before .before .before .before .before in
+    let e = t .before .before in
+    let m = a .append .ensures [] in
+    record {
+      fit = m .fit;
+      coded = λ F. e .before .before .line-code .ensures F;
+      known = λ F. not-last e F;
+      state = λ F. rw (t .if2 .taken) (m .state);
+    }
 
--- src/lib.rt:145:1
-same-length-5 : tie.Need-same-length-5
-same-length-5 c = search needs
-
--- src/lib.rt:145:1
-same-length-6 : tie.Need-same-length-6
-same-length-6 c = search needs
-
--- src/lib.rt:145:1
 returns-3 : tie.Need-returns-3
-returns-3 c = ?
+returns-3 c =
+    let e = c .before .before in
+    let x = start e in
+    record {
+      fit = x .pre .0;
+      coded = λ F. e .before .before .line-code .ensures F;
+      known = λ F. not-last e F;
+      state = λ F. rw (ne-eqb (x .args .l .phase) 4 (c .if2 .left)) refl;
+    }
 
 pub close-line-spec : {M : Type 1} → statement M
 close-line-spec =
     tie.close
     (tie.spec
-    line-code-requires
-    is-last-requires
-    emptied-requires
-    same-length
-    same-length-2
+    (λ c κs. search needs)  -- line-code-requires
+    (λ c κs. search needs)  -- is-last-requires
+    (λ c κs. search needs)  -- emptied-requires
+    (λ c. search needs)  -- same-length
+    (λ c. search needs)  -- same-length-2
     returns
-    cast-n
-    slice-aggregate-append
+    (λ c. search needs)  -- cast-n
+    (λ c. sym (kept (start (c .before .before .before .before .before .before))))  -- slice-aggregate-append
     append-requires
-    same-length-3
-    same-length-4
+    (λ c. search needs)  -- same-length-3
+    (λ c. search needs)  -- same-length-4
     returns-2
-    same-length-5
-    same-length-6
+    (λ c. search needs)  -- same-length-5
+    (λ c. search needs)  -- same-length-6
     returns-3)

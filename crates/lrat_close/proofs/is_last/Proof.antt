@@ -14,7 +14,7 @@ use Rattle.lrat_close.proofs.is_last.Tie as tie
 -- a list without elements is the one of length 0
 none-left : (c : List ℤ) {n : ℕ} → length c ≡ n → eqb n 0 ≡ null c
 none-left [] e = rw (sym e) refl
-none-left (l ∷ c) e = ne-eqb _ 0 (λ z. absurd (omega arith))
+none-left (l ∷ c) {n} e = ne-eqb n 0 (λ z. let k : suc (length c) ≡ n = e in absurd (omega arith))
 
 returns : tie.Need-returns
 returns c lits F e = rw (ne-eqb (c .before .args .code) 0 (c .if1 .taken)) refl

@@ -1,29 +1,39 @@
+use mathlib.Core.Path.{_≡_, refl}
+use native.Mathlib.Omega.{arith}
 use borrow.Author.Needs.{needs}
+use borrow.Author.Tests.{ne-eqb, lt-leb, le-leb}
+use Rattle.lrat.specs.Machine.{line-code}
 use Rattle.lrat_close.proofs.line_code.Statement.{statement}
 use Rattle.lrat_close.proofs.line_code.Tie as tie
-use Rattle.lrat_close.proofs.line_code.Reads as reads
-use Rattle.lrat_close.proofs.line_code.Lts as lts
-use Rattle.lrat_close.proofs.addition_code.Reads as addition-code-reads
 
--- src/lib.rt:95:9
-addition-code-requires : tie.Need-addition-code-requires
-addition-code-requires c κs = search needs
-
--- src/lib.rt:95:9
 returns : tie.Need-returns
-returns c = ?
+unfolding line-code
+returns c F = let e = c .addition-code .ensures F in rw (c .before .if1 .taken) e
 
--- src/lib.rt:98:9
 returns-2 : tie.Need-returns-2
-returns-2 c = ?
+unfolding line-code
+returns-2 c F =
+    let p = c .before .before .before .before .before .args .l .phase in
+    rw (ne-eqb p 4 (c .before .before .if1 .left), ne-eqb p 6 (c .if2 .taken)) refl
 
--- src/lib.rt:101:9
 returns-3 : tie.Need-returns-3
-returns-3 c = ?
+unfolding line-code
+returns-3 c F =
+    let l = c .before .before .before .before .before .before .before .args .l in
+    rw (c .before .before .if2 .left, lt-leb 37 (l .noted) (c .if3 .taken)) refl
 
--- src/lib.rt:89:1
 returns-4 : tie.Need-returns-4
-returns-4 c = ?
+unfolding line-code
+returns-4 c F =
+    let l = c .before .before .before .before .before .before .before .args .l in
+    rw (c .before .before .if2 .left, le-leb 37 (l .noted) (omega (arith, c .if3 .left))) refl
 
 pub line-code-spec : {M : Type 1} → statement M
-line-code-spec = tie.close (tie.spec addition-code-requires returns returns-2 returns-3 returns-4)
+line-code-spec =
+    tie.close
+    (tie.spec
+    (λ c κs. search needs)  -- addition-code-requires
+    returns
+    returns-2
+    returns-3
+    returns-4)
