@@ -255,8 +255,11 @@ abbrev pub decided : Session → Session
 decided m = cond (m .over) m (unproved m)
 
 -- a last line without LF is a line
+abbrev pub end-line : Session → Session
+end-line m = cond (eqb (m .word .kind) 0) m (close-line (end-word m))
+
 unfoldable pub finish : Session → Session
-finish m = cond (m .over) m (decided (cond (eqb (m .word .kind) 0) m (close-line (end-word m))))
+finish m = cond (m .over) m (decided (end-line m))
 
 -- the answer of a run that is over: the detail of an acceptance is 0
 abbrev pub told : Session → LratAnswer
