@@ -1,1 +1,2 @@
--- Empty for now.
+-- A word of bytes as the machine hears it.
+pub mod Heard
