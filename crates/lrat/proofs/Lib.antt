@@ -1,2 +1,4 @@
 -- A word of bytes as the machine hears it.
 pub mod Heard
+-- A line's bytes as its words, taken.
+pub mod Fed
