@@ -2,3 +2,5 @@
 pub mod Heard
 -- A line's bytes as its words, taken.
 pub mod Fed
+-- Numbers up to a 0, heard.
+pub mod Closing
