@@ -4,3 +4,5 @@ pub mod Heard
 pub mod Fed
 -- Numbers up to a 0, heard.
 pub mod Closing
+-- What every word leaves.
+pub mod Onward
