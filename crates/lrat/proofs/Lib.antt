@@ -6,3 +6,7 @@ pub mod Fed
 pub mod Closing
 -- What every word leaves.
 pub mod Onward
+-- The literals of a line, one by one.
+pub mod Literals
+-- Its hints, one by one.
+pub mod Hints

@@ -86,9 +86,9 @@ ask-least false n m h k = h
 fault-noted : (s : State) (r : Reading) → r .line .noted ≡ 31 → addition-fault s r ≡ 31
 fault-noted s r e =
     let i = r .line .id in
-    let last = ask-least (ltb (s .highest) i) 34 37 (omega arith) (omega arith) in
-    let more = ask-least (is-clause (s .vars) (r .lits)) 33 _ (omega arith) last in
-    let least = ask-least (ltb 0 i && leb i 2147483647) 31 _ (omega arith) more in
+    let last = ask-least {least = 31} (ltb (s .highest) i) 34 37 (omega arith) (omega arith) in
+    let more = ask-least {least = 31} (is-clause (s .vars) (r .lits)) 33 _ (omega arith) last in
+    let least = ask-least {least = 31} (ltb 0 i && leb i 2147483647) 31 _ (omega arith) more in
     omega (arith, e, least)
 
 pub code-noted : (s : State) (r : Reading) → r .line .noted ≡ 31 → line-code s r ≡ 31
