@@ -10,3 +10,5 @@ pub mod Onward
 pub mod Literals
 -- Its hints, one by one.
 pub mod Hints
+-- The ids of a deletion, one by one.
+pub mod Deleted
