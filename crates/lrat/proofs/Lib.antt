@@ -12,3 +12,5 @@ pub mod Literals
 pub mod Hints
 -- The ids of a deletion, one by one.
 pub mod Deleted
+-- The end of an addition.
+pub mod Additions

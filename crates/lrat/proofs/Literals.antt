@@ -62,12 +62,11 @@ module _ (s : State) (r : Reading) (small : s .vars ≤ 2048) (at : AmongLiteral
   literal-taken (pos (suc n)) e = signed-taken false (suc n) (omega arith)
   literal-taken (negsuc n) e = signed-taken true (suc n) (omega arith)
 
-among-still : (vars : ℕ) (l : ℤ) (r : Reading) → AmongLiterals (take-literal vars l r)
-among-still vars l r = by-cases (in-range vars l)
-    (λ e. by-cases (ltb (r .line .count) 256)
-    (λ f. rw (e, f) (record { behind-id = refl; before-hints = refl }))
-    (λ f. rw (e, f) (record { behind-id = refl; before-hints = refl })))
-    (λ e. rw e (record { behind-id = refl; before-hints = refl }))
+pub among-two : (r : Reading) → r .line .phase ≡ 2 → AmongLiterals r
+among-two r e = record { behind-id = rw e; before-hints = rw e }
+
+phase-two : (vars : ℕ) (l : ℤ) (r : Reading) → take-literal vars l r .line .phase ≡ 2
+phase-two vars l r = by-cases (in-range vars l) (λ e. by-cases (ltb (r .line .count) 256) (λ f. rw (e, f)) (λ f. rw (e, f))) (λ e. rw e)
 
 -- ---- all of them
 
@@ -77,12 +76,18 @@ unfolding takes literals-taken map
 literals-run [] s r small at n = refl
 literals-run (l ∷ c) s r small at n =
     ap (λ t. takes t (numbers-heard c)) (literal-taken s r small at l (all-head nonzero l c n))
-    ∙ literals-run c s (take-literal (s .vars) l r) small (among-still (s .vars) l r) (all-tail nonzero l c n)
+    ∙ literals-run c s (take-literal (s .vars) l r) small (among-two _ (phase-two (s .vars) l r)) (all-tail nonzero l c n)
+
+-- behind one literal or more
+pub phase-literals : (c : List ℤ) (l : ℤ) (vars : ℕ) (r : Reading) → literals-taken vars r (l ∷ c) .line .phase ≡ 2
+unfolding literals-taken
+phase-literals [] l vars r = phase-two vars l r
+phase-literals (m ∷ c) l vars r = phase-literals c m vars (take-literal vars l r)
 
 pub among-yet : (c : List ℤ) (vars : ℕ) (r : Reading) → AmongLiterals r → AmongLiterals (literals-taken vars r c)
 unfolding literals-taken
 among-yet [] vars r at = at
-among-yet (l ∷ c) vars r at = among-yet c vars (take-literal vars l r) (among-still vars l r)
+among-yet (l ∷ c) vars r at = among-two _ (phase-literals c l vars r)
 
 -- the number that literals note, where k are kept already
 unfoldable literal-fault : ℕ → ℕ → List ℤ → ℕ

@@ -20,6 +20,7 @@ use Rattle.lrat.proofs.Fed.{takes}
 
 pub record Onward (s : State) (r : Reading) (t : Step) : Type 0 where
   pub noted : r .line .noted ≡ 31 → t .reading .line .noted ≡ 31
+  pub least : 31 ≤ r .line .noted → 31 ≤ t .reading .line .noted
   pub size : emptied (t .state) ≡ emptied s
 
 pub gone-size : (s : State) (i : ℕ) → emptied (gone s i) ≡ emptied s
@@ -27,10 +28,10 @@ gone-size s i = by-cases (has (s .learned) i) (λ e. rw e) (λ e. rw e)
 
 module _ (s : State) (r : Reading) where
   quiet : (r′ : Reading) → r′ .line .noted ≡ r .line .noted → Onward s r (step s r′)
-  quiet r′ e = record { noted = λ n. e ∙ n; size = refl }
+  quiet r′ e = record { noted = λ n. e ∙ n; least = λ h. omega (arith, e, h); size = refl }
 
   noting-on : (code : ℕ) (r′ : Reading) → 31 ≤ code → r′ .line .noted ≡ min (r .line .noted) code → Onward s r (step s r′)
-  noting-on code r′ h e = record { noted = λ n. omega (arith, e, n, h); size = refl }
+  noting-on code r′ h e = record { noted = λ n. omega (arith, e, n, h); least = λ k. omega (arith, e, h, k); size = refl }
 
   literals-on : (minus : Bool) (v : ℕ) → Onward s r (among-literals s minus v r)
   literals-on minus v = by-cases (eqb v 0) (λ e. rw e (quiet _ refl)) λ e.
@@ -51,7 +52,7 @@ module _ (s : State) (r : Reading) where
   ids-on : (minus : Bool) (v : ℕ) → Onward s r (among-ids s minus v r)
   ids-on minus v = by-cases (eqb v 0) (λ e. rw e (quiet _ refl)) λ e.
       by-cases minus (λ i. rw (e, i) (noting-on 31 _ (omega arith) refl)) λ i.
-      by-cases (is-held s v) (λ h. rw (e, i, h) (record { noted = λ n. n; size = gone-size s v })) (λ h. rw (e, i, h) (noting-on 35 _ (omega arith) refl))
+      by-cases (is-held s v) (λ h. rw (e, i, h) (record { noted = λ n. n; least = λ k. k; size = gone-size s v })) (λ h. rw (e, i, h) (noting-on 35 _ (omega arith) refl))
 
   number-on : (minus : Bool) (v : ℕ) → Onward s r (take-number s minus v r)
   unfolding take-number
@@ -70,11 +71,11 @@ module _ (s : State) (r : Reading) where
 
 pub words-on : (ws : List LineWord) (t : Step) → Onward (t .state) (t .reading) (takes t ws)
 unfolding takes
-words-on [] t = record { noted = λ n. n; size = refl }
+words-on [] t = record { noted = λ n. n; least = λ k. k; size = refl }
 words-on (w ∷ ws) t =
     let a = word-on (t .state) (t .reading) w in
     let b = words-on ws (take-word (t .state) w (t .reading)) in
-    record { noted = λ n. b .noted (a .noted n); size = b .size ∙ a .size }
+    record { noted = λ n. b .noted (a .noted n); least = λ k. b .least (a .least k); size = b .size ∙ a .size }
 
 -- ---- a line that is refused 31
 
