@@ -14,3 +14,5 @@ pub mod Hints
 pub mod Deleted
 -- The end of an addition.
 pub mod Additions
+-- A line, word by word.
+pub mod Lines

@@ -159,6 +159,14 @@ literal-numbers (l ∷ c) vars k h = by-cases (in-range vars l)
 abbrev pub literals-noted : ℕ → List ℤ → ℕ
 literals-noted vars c = ask (all-pass (in-range vars) c) 32 (ask (leb (length c) 256) 33 37)
 
+pub noted-most : (vars : ℕ) (c : List ℤ) → literals-noted vars c ≤ 37
+noted-most vars c = by-cases (all-pass (in-range vars) c)
+    (λ a. by-cases (leb (length c) 256) (λ b. rw (a, b) (omega arith)) (λ b. rw (a, b) (omega arith))) (λ a. rw a (omega arith))
+
+pub noted-least : (vars : ℕ) (c : List ℤ) → 31 ≤ literals-noted vars c
+noted-least vars c =
+    ask-least {least = 31} (all-pass (in-range vars) c) 32 _ (omega arith) (ask-least (leb (length c) 256) 33 37 (omega arith) (omega arith))
+
 pub record LiteralsTaken (vars : ℕ) (r : Reading) (c : List ℤ) (r′ : Reading) : Type 0 where
   pub noted : r′ .line .noted ≡ literals-noted vars c
   pub lits : literals-noted vars c ≡ 37 → r′ .lits ≡ c
@@ -172,14 +180,10 @@ all-literals c vars r n k e =
     let f : literal-fault vars (r .line .count) c ≡ literals-noted vars c =
     ap (λ x. literal-fault vars x c) k ∙ literal-numbers c vars 0 (omega arith)
     ∙ ap (λ x. ask (all-pass (in-range vars) c) 32 (ask (leb x 256) 33 37)) (zero-add (length c)) in
-    let most : literals-noted vars c ≤ 37 = bounded in
+    let most = noted-most vars c in
     record {
       noted = omega (arith, t .noted, n, f, most);
       lits = λ q. t .lits (f ∙ q) ∙ ap (λ x. x ++ c) e;
       id = t .id;
       proof = t .proof;
     }
-  where
-    bounded : literals-noted vars c ≤ 37
-    bounded = by-cases (all-pass (in-range vars) c)
-        (λ a. by-cases (leb (length c) 256) (λ b. rw (a, b) (omega arith)) (λ b. rw (a, b) (omega arith))) (λ a. rw a (omega arith))
