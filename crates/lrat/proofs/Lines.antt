@@ -237,3 +237,99 @@ module _ (hints : List ℤ) (s : State) (i : ℤ) (c : List ℤ) (r : Reading) (
       let o : in-order (hints-behind .line .id) ≡ false = ap in-order (same-line .id ∙ L .id) ∙ id-lost i e in
       let f : addition-fault s (enter 4 hints-behind) ≡ 31 = rw o (omega (arith, k)) in
       rw f
+
+-- malformed, whether the id is one or not
+both-wrong : (b : Bool) (s : State) (t : Step) → Wrong t → LineRead s (cond b malformed malformed) t
+both-wrong true s t e = wrong-read s t e
+both-wrong false s t e = wrong-read s t e
+
+at-end-wrong : (ws : List TextWord) (s : State) (t : Step) → LineRead s (at-end ws malformed) t → LineRead s malformed t
+at-end-wrong [] s t r = r
+at-end-wrong (w ∷ ws) s t r = r
+
+hints-line : (ws : List TextWord) (u : Option Closed) (s : State) (i : ℤ) (c : List ℤ) (r : Reading) → Upto ws u → LiteralsRead s i c r →
+    LineRead s (cond (is-id i) (with-hints i c u) malformed) (takes (step s r) (heard-words ws))
+hints-line ws none s i c r u L =
+    let ran = hints-run (u .numbers) s r (L .phase) (u .others) in
+    let t = step s (hints-taken (among (everything s)) r (u .numbers)) in
+    let p = hints-same (u .numbers) (among (everything s)) r .phase ∙ L .phase in
+    let e = unclosed-takes ws (step s r) t u ran in
+    let k = words-on (numbers-heard (u .numbers)) (step s r) .least (omega (arith, L .noted, noted-least (s .vars) c)) in
+    rw e (both-wrong (is-id i) s _ (stops-short (u .rest) t (u .stops) (rw ran at k) (rw p) (rw p) (rw p)))
+hints-line ws (some x) s i c r u L =
+    let ran = hints-run (x .numbers) s r (L .phase) (u .others) in
+    let t = hints-closed (x .numbers) s i c r L in
+    let e = closed-takes ws x (step s r) (step s (hints-behind (x .numbers) s i c r L)) u ran
+    ∙ ap (λ y. takes y (heard-words (x .behind))) (zero-ends (x .numbers) s i c r L) in
+    let before = words-on (numbers-heard (x .numbers)) (step s r) .least (omega (arith, L .noted, noted-least (s .vars) c)) in
+    let k : 31 ≤ t .reading .line .noted = rw ran at before in
+    let shut = hints-shut (x .numbers) s i c r L in
+    rw e (by-cases (is-id i)
+    (λ y. rw y (behind-shut (x .behind) _ s t shut k (addition-read (x .numbers) s i c r L y)))
+    (λ n. rw n (at-end-wrong (x .behind) s _ (behind-shut (x .behind) malformed s t shut k (wrong-read s t (addition-wrong (x .numbers) s i c r L n k))))))
+
+-- ---- the literals of an addition, from behind its id
+
+record IdRead (i : ℤ) (r : Reading) : Type 0 where
+  phase : r .line .phase ≡ 1
+  noted : r .line .noted ≡ 37
+  count : r .line .count ≡ 0
+  id : r .line .id ≡ id-heard i
+  proof : r .line .proof ≡ 0
+  lits : r .lits ≡ []
+
+behind-id-read : {i : ℤ} {r : Reading} → IdRead i r → AmongLiterals r
+behind-id-read I = let p = I .phase in record { behind-id = rw p; before-hints = rw p }
+
+-- the first word is no d
+abbrev NoD : List LineWord → Type 0
+NoD [] = Unit {0}
+NoD (Number minus v ∷ ws) = Unit {0}
+NoD (Deletion ∷ ws) = ⊥
+NoD (Other ∷ ws) = Unit {0}
+
+stops-at-once : (ws : List LineWord) (t : Step) → Stops ws → NoD ws → 31 ≤ t .reading .line .noted →
+    eqb (t .reading .line .phase) 4 ≡ false → eqb (t .reading .line .phase) 6 ≡ false → Wrong (takes t ws)
+unfolding takes take-word
+stops-at-once [] t h d k b c = code-unclosed (t .state) (t .reading) b c
+stops-at-once (Number minus v ∷ ws) t h d k b c = absurd h
+stops-at-once (Deletion ∷ ws) t h d k b c = absurd d
+stops-at-once (Other ∷ ws) t h d k b c = wrong-word Other ws t k refl
+
+module _ (s : State) (i : ℤ) (r : Reading) (small : s .vars ≤ 2048) (I : IdRead i r) where
+  -- unclosed literals
+  literals-short : (c : List ℤ) (rest : List LineWord) → all-pass nonzero c ≡ true → Stops rest → NoD (numbers-heard c ++ rest) →
+      Wrong (takes (step s r) (numbers-heard c ++ rest))
+  unfolding map
+  literals-short [] rest n h d = let p = I .phase in stops-at-once rest (step s r) h d (omega (arith, I .noted)) (rw p) (rw p)
+  literals-short (l ∷ c) rest n h d =
+      let ran = literals-run (l ∷ c) s r small (behind-id-read I) n in
+      let t = step s (literals-taken (s .vars) r (l ∷ c)) in
+      let p = phase-literals c l (s .vars) r in
+      let e : takes (step s r) (numbers-heard (l ∷ c) ++ rest) ≡ takes t rest = takes-append (numbers-heard (l ∷ c)) rest (step s r) ∙ ap (λ y. takes y rest) ran in
+      rw e (stops-short rest t h (least-on _ _ _ (I .noted) ran) (rw p) (rw p) (rw p))
+
+  -- closed literals
+  module _ (c : List ℤ) (n : all-pass nonzero c ≡ true) where
+    abbrev literals-behind : Reading
+    literals-behind = literals-taken (s .vars) r c
+
+    zero-turns : take-word s zero-heard literals-behind ≡ step s (end-literals literals-behind)
+    unfolding take-word take-number
+    zero-turns = let a = among-yet c (s .vars) r (behind-id-read I) in rw (a .behind-id, a .before-hints)
+
+    literals-read : LiteralsRead s i c (end-literals literals-behind)
+    literals-read =
+        let t = all-literals c (s .vars) r (I .noted) (I .count) (I .lits) in
+        record { phase = refl; noted = t .noted; id = t .id ∙ I .id; proof = t .proof ∙ I .proof; lits = t .lits; falses = refl }
+
+  literals-line : (ws : List TextWord) (u : Option Closed) → Upto ws u → NoD (heard-words ws) →
+      LineRead s (with-literals i u) (takes (step s r) (heard-words ws))
+  literals-line ws none u d =
+      let same = u .same in
+      rw same (wrong-read s _ (literals-short (u .numbers) (u .rest) (u .others) (u .stops) (rw same at d)))
+  literals-line ws (some x) u d =
+      let ran = literals-run (x .numbers) s r small (behind-id-read I) (u .others) in
+      let e = closed-takes ws x (step s r) (step s (literals-behind (x .numbers) (u .others))) u ran
+      ∙ ap (λ y. takes y (heard-words (x .behind))) (zero-turns (x .numbers) (u .others)) in
+      rw e (hints-line (x .behind) (up-to-zero (x .behind)) s i (x .numbers) _ (upto (x .behind)) (literals-read (x .numbers) (u .others)))
