@@ -39,6 +39,13 @@ pub record LineRead (s : State) (l : Line) (t : Step) : Type 0 where
   pub state : check-line s l ≡ 0 → state-behind (t .state) (t .reading) ≡ next-line s l
   pub empty : check-line s l ≡ 0 → (is-addition (t .reading) && null (t .reading .lits)) ≡ is-empty-clause l
 
+-- the same line, the same words
+line-as : {s : State} {l l′ : Line} {t : Step} → l ≡ l′ → LineRead s l′ t → LineRead s l t
+line-as e r = rw e r
+
+read-as : {s : State} {l : Line} {t t′ : Step} → t ≡ t′ → LineRead s l t′ → LineRead s l t
+read-as e r = rw e r
+
 -- ---- malformed
 
 -- the words come to 31
@@ -333,3 +340,64 @@ module _ (s : State) (i : ℤ) (r : Reading) (small : s .vars ≤ 2048) (I : IdR
       let e = closed-takes ws x (step s r) (step s (literals-behind (x .numbers) (u .others))) u ran
       ∙ ap (λ y. takes y (heard-words (x .behind))) (zero-turns (x .numbers) (u .others)) in
       rw e (hints-line (x .behind) (up-to-zero (x .behind)) s i (x .numbers) _ (upto (x .behind)) (literals-read (x .numbers) (u .others)))
+
+-- ---- a whole line
+
+heard-d : (w : List ℕ) → is-d w ≡ true → heard w ≡ Deletion
+unfolding integer-of natural-of all-pass
+heard-d [] e = true-false e refl
+heard-d (b ∷ []) e = let q = eqb-true b 100 e in rw q
+heard-d (b ∷ c ∷ w) e = true-false e refl
+
+-- any other word is heard as a number or as something else
+no-d : (n : Option ℤ) (ws : List LineWord) → NoD (heard-as n false ∷ ws)
+no-d none ws = tt
+no-d (some (pos n)) ws = tt
+no-d (some (negsuc n)) ws = tt
+
+abbrev pub unread : Literals → Reading
+unread F = record { line = line-start; lits = []; falses = F }
+
+-- behind the id
+abbrev id-behind : Literals → ℤ → Reading
+id-behind F i = record { line = record { phase = 1; noted = 37; id = id-heard i; count = 0; proof = 0 }; lits = []; falses = F }
+
+id-first : (i : ℤ) (s : State) (F : Literals) → take-word s (number-heard i) (unread F) ≡ step s (id-behind F i)
+unfolding take-word take-number
+id-first (pos n) s F = refl
+id-first (negsuc n) s F = refl
+
+module _ (s : State) (F : Literals) (small : s .vars ≤ 2048) where
+  after-id : (ws : List TextWord) (i : ℤ) → LineRead s (behind-id (some i) ws) (takes (step s (id-behind F i)) (heard-words ws))
+  unfolding takes map take-word
+  after-id [] i = wrong-read s _ (code-unclosed s (id-behind F i) refl refl)
+  after-id (w ∷ ws) i = by-cases (is-d (w .bytes))
+      (λ d.
+      let h = heard-d (w .bytes) d in
+      let e : takes (step s (id-behind F i)) (heard-words (w ∷ ws)) ≡ takes (step s (enter 5 (id-behind F i))) (heard-words ws) =
+      ap (λ x. takes (step s (id-behind F i)) (x ∷ heard-words ws)) h in
+      read-as e (rw d (deletion-read ws (up-to-zero ws) s (enter 5 (id-behind F i)) (upto ws) refl refl)))
+      (λ d.
+      let I : IdRead i (id-behind F i) = record { phase = refl; noted = refl; count = refl; id = refl; proof = refl; lits = refl } in
+      let k : NoD (heard-words (w ∷ ws)) = rw d (no-d (integer-of (w .bytes)) (heard-words ws)) in
+      let q : behind-id (some i) (w ∷ ws) ≡ with-literals i (up-to-zero (w ∷ ws)) = rw d in
+      line-as q (literals-line s i (id-behind F i) small I (w ∷ ws) (up-to-zero (w ∷ ws)) (upto (w ∷ ws)) k))
+
+  by-first : (w : TextWord) (ws : List TextWord) (n : Option ℤ) → integer-of (w .bytes) ≡ n →
+      LineRead s (behind-id n ws) (takes (step s (unread F)) (heard-words (w ∷ ws)))
+  unfolding takes map take-word
+  by-first w ws none e =
+      wrong-read s _ (wrong-word (heard (w .bytes)) (heard-words ws) (step s (unread F)) (omega arith)
+      (ap (λ n. take-word s (heard-as n (is-d (w .bytes))) (unread F)) e ∙ no-number (is-d (w .bytes))))
+    where
+      no-number : (d : Bool) → take-word s (heard-as none d) (unread F) ≡ step s (note 31 (unread F))
+      no-number true = refl
+      no-number false = refl
+  by-first w ws (some i) e =
+      read-as (ap (λ n. takes (take-word s (heard-as n (is-d (w .bytes))) (unread F)) (heard-words ws)) e
+      ∙ ap (λ t. takes t (heard-words ws)) (id-first i s F)) (after-id ws i)
+
+  pub words-line : (ws : List TextWord) → LineRead s (read-words ws) (takes (step s (unread F)) (heard-words ws))
+  unfolding takes map
+  words-line [] = wrong-read s _ (code-unclosed s (unread F) refl refl)
+  words-line (w ∷ ws) = by-first w ws (integer-of (w .bytes)) refl
