@@ -16,3 +16,5 @@ pub mod Deleted
 pub mod Additions
 -- A line, word by word.
 pub mod Lines
+-- The run over a proof.
+pub mod Runs
