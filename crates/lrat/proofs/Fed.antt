@@ -46,11 +46,11 @@ word-ends m k first at (b ∷ w) n e = let s = spoken k b w n in rw (e, s .going
 
 -- a byte of a line: a blank ends a word, another is one of its bytes
 module _ (m : Session) (b : ℕ) (o : m .over ≡ false) (goes : eqb b 10 ≡ false) where
-  blank-moved : is-blank b ≡ true → move m b ≡ end-word m
+  pub blank-moved : is-blank b ≡ true → move m b ≡ end-word m
   unfolding move
   blank-moved t = rw (t, o, goes)
 
-  byte-moved : is-blank b ≡ false → move m b ≡ pushed b m
+  pub byte-moved : is-blank b ≡ false → move m b ≡ pushed b m
   unfolding move
   byte-moved f = rw (f, o, goes)
 

@@ -9,14 +9,15 @@ use borrow.Author.Tests.{eqb-true}
 use Rattle.rules.specs.Lists.{all-pass}
 use Rattle.rules.specs.Terms.{Literals, State, null}
 use Rattle.rules.proofs.Lists.{by-cases, true-false, not-true, all-nil, all-cons, all-append}
+use Rattle.text.specs.Words.{is-blank}
 use Rattle.text.specs.Places.{goes-on}
 use Rattle.lrat.specs.Lines.{Line, malformed, addition, deletion, proof-lines, words-in, read-line}
 use Rattle.lrat.specs.Checking.{gone, all-gone, check-line, next-line, is-empty-clause, answer, one-more, by-line, check-lines, check-proof}
-use Rattle.lrat.specs.Machine.{at-start, step, Step, line-code, is-addition, Session, emptied, started, word-taken, end-word, close-line, move, run}
+use Rattle.lrat.specs.Machine.{at-start, is-word, said, step, Step, line-code, is-addition, Session, emptied, started, word-taken, end-word, close-line, move, run}
 use Rattle.lrat.specs.Machine.{line-closed, unproved, decided, finish, told}
 use Rattle.lrat.specs.declared.LratAnswer.{LratAnswer}
-use Rattle.lrat.proofs.Fed.{takes, heard-words, run-on, line-fed, begun-on}
-use Rattle.lrat.proofs.Onward.{gone-size, words-on}
+use Rattle.lrat.proofs.Fed.{takes, heard-words, run-on, blank-moved, byte-moved, line-fed, begun-on}
+use Rattle.lrat.proofs.Onward.{Counted, gone-size, word-on, words-on}
 use Rattle.lrat.proofs.Lines.{LineRead, unread, words-line}
 use Rattle.lrat.proofs.Heard.{pushes}
 
@@ -212,3 +213,21 @@ finish-over s small proof = run-ends s small proof .over
 
 pub finish-empties : (s : State) → s .vars ≤ 2048 → (proof : List ℕ) → finish (run (started s) proof) .state ≡ emptied s
 finish-empties s small proof = run-ends s small proof .state
+
+-- ---- as many literals are kept as are counted
+
+word-counted : (m : Session) → Counted (m .reading) → Counted (end-word m .reading)
+unfolding end-word
+word-counted m c = by-cases (is-word (m .word)) (λ t. rw t (word-on (m .state) (m .reading) (said (m .word)) .counted c)) (λ f. rw f c)
+
+move-counted : (m : Session) (b : ℕ) → Counted (m .reading) → Counted (move m b .reading)
+move-counted m b c = by-cases (m .over) (λ o. rw (over-move m b o) c) λ o. by-cases (eqb b 10) (λ e. rw (move-closes m b o e) refl) λ e.
+    by-cases (is-blank b) (λ t. rw (blank-moved m b o e t) (word-counted m c)) (λ f. rw (byte-moved m b o e f) c)
+
+pub counted-on : (bs : List ℕ) (m : Session) → Counted (m .reading) → Counted (run m bs .reading)
+unfolding run
+counted-on [] m c = c
+counted-on (b ∷ bs) m c = counted-on bs (move m b) (move-counted m b c)
+
+pub counted : (s : State) (bs : List ℕ) → Counted (run (started s) bs .reading)
+counted s bs = counted-on bs (started s) refl
