@@ -18,3 +18,5 @@ pub mod Additions
 pub mod Lines
 -- The run over a proof.
 pub mod Runs
+-- An accepted proof means that the text has no model.
+pub mod Sound
