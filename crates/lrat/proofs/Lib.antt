@@ -20,3 +20,5 @@ pub mod Lines
 pub mod Runs
 -- An accepted proof means that the text has no model.
 pub mod Sound
+-- Small proofs, by computing.
+pub mod Examples
