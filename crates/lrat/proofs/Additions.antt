@@ -1,20 +1,19 @@
 -- The end of an addition: what was noted, kept and read of it is what the definition asks of its parts.
-use mathlib.Core.Path.{_≡_, refl, sym, ap, _∙_}
-use mathlib.Core.Bool.{Bool, true, false, not, cond, _&&_, _||_}
+use mathlib.Core.Path.{_≡_, refl, sym, _∙_}
+use mathlib.Core.Bool.{true, false, not, _&&_}
 use mathlib.Core.List.{List, [], _∷_, map, List·Memᴰ}
-use Prim.Native.Nat.{ℕ, zero, suc, _+_, _≤_, min}
+use Prim.Native.Nat.{ℕ, zero, suc, _≤_, min}
 use native.Mathlib.Omega.{arith}
 use lib.Dec.{eqb, ltb, leb}
 use lib.IntN.{ℤ, pos, negsuc, natAbs}
 use lib.ListN.{length}
 use borrow.Author.Tests.{eqb-true, eq-eqb}
 use Rattle.rules.specs.Lists.{any-passes, all-pass}
-use Rattle.rules.specs.Terms.{State, in-range, holds, opposes, mentions, distinct, is-clause, null, everything}
+use Rattle.rules.specs.Terms.{State, in-range, holds, opposes, mentions, distinct, is-clause, everything}
 use Rattle.rules.specs.Propagation.{among, run, proves}
-use Rattle.rules.specs.Frames.{LEARN, next}
-use Rattle.rules.proofs.Lists.{by-cases, true-false, not-true, and-left, and-right, or-false, any-in, any-find, any-none}
+use Rattle.rules.proofs.Lists.{by-cases, true-false, not-true, and-left, and-right, any-in, any-find, any-none}
 use Rattle.rules.proofs.Literals.{opposes-also, opposite-mentioned, clash}
-use Rattle.lrat.specs.Checking.{ask, named-by, not-negative, is-proved, ask-room, check-addition}
+use Rattle.lrat.specs.Checking.{ask, named-by, not-negative, is-proved, check-addition}
 use Rattle.lrat.specs.Machine.{Reading, addition-fault, addition-code}
 use Rattle.lrat.proofs.Onward.{ask-least}
 use Rattle.lrat.proofs.Literals.{literals-noted}

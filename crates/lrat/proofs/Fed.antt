@@ -1,17 +1,16 @@
 -- The bytes of a line, fed to the machine, are its words taken one after the other.
 use mathlib.Core.Path.{_≡_, refl, sym, ap, _∙_}
-use mathlib.Core.Bool.{Bool, true, false, not, cond, _&&_, _||_}
+use mathlib.Core.Bool.{Bool, true, false}
 use mathlib.Core.List.{List, [], _∷_, _++_, map, map-append}
 use Prim.Native.Nat.{ℕ, _+_}
 use lib.Dec.{eqb, ltb}
 use lib.ListN.{length}
 use Rattle.rules.specs.Lists.{all-pass}
-use Rattle.rules.specs.Terms.{State}
-use Rattle.rules.proofs.Lists.{by-cases, true-false, not-true, all-head, all-tail}
+use Rattle.rules.proofs.Lists.{by-cases, not-true, all-head, all-tail}
 use Rattle.text.specs.Words.{is-blank, TextWord, ended-word, still-first, line-words}
 use Rattle.text.specs.Places.{goes-on}
 use Rattle.text_numbers.specs.Numbers.{is-decimal}
-use Rattle.lrat.specs.Machine.{between, is-word, push, said, Reading, Step, step, take-word, Session, word-taken, end-word, pushed, move, run}
+use Rattle.lrat.specs.Machine.{between, is-word, push, Step, step, take-word, Session, word-taken, end-word, pushed, move, run}
 use Rattle.lrat.specs.declared.LineWord.{LineWord}
 use Rattle.lrat.specs.declared.ProofWord.{ProofWord}
 use Rattle.lrat.proofs.Heard.{heard, pushes, pushes-last, spoken}
@@ -68,8 +67,9 @@ line-fed (b ∷ l) m k first at w o a n e =
     let more = line-words (still-first first w) (at + length w + 1) [] l in
     let m′ = word-taken m (takes (step (m .state) (m .reading)) (heard-words ws)) in
     let moved : move m b ≡ m′ = blank-moved m b o goes t ∙ word-ends m k first at w n e in
-    let joined : takes (step (m .state) (m .reading)) (heard-words (ws ++ more)) ≡ takes (takes (step (m .state) (m .reading)) (heard-words ws)) (heard-words more)
-    = ap (takes (step (m .state) (m .reading))) (map-append (λ (x : TextWord). heard (x .bytes)) ws more) ∙ takes-append (heard-words ws) (heard-words more) _ in
+    let t₀ = step (m .state) (m .reading) in
+    let joined : takes t₀ (heard-words (ws ++ more)) ≡ takes (takes t₀ (heard-words ws)) (heard-words more) =
+    ap (takes t₀) (map-append (λ (x : TextWord). heard (x .bytes)) ws more) ∙ takes-append (heard-words ws) (heard-words more) t₀ in
     rw t (ap (λ x. end-word (run x l)) moved ∙ line-fed l m′ between (still-first first w) (at + length w + 1) [] o rest refl refl
     ∙ ap (word-taken m) (sym joined)))
     (λ f. rw f (ap (λ x. end-word (run x l)) (byte-moved m b o goes f)

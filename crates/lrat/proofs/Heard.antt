@@ -1,19 +1,19 @@
 -- A word as the machine has it, byte by byte, and the number that it is.
 use mathlib.Core.Path.{_≡_, refl, sym, ap, _∙_}
-use mathlib.Core.Bool.{Bool, true, false, not, cond, _&&_}
+use mathlib.Core.Bool.{Bool, true, false, cond}
 use mathlib.Core.List.{List, [], _∷_, _++_}
 use mathlib.Core.Option.{Option, none, some}
-use Prim.Native.Nat.{ℕ, zero, suc, _+_, _-_, _*_, _≤_, _<_, min}
+use Prim.Native.Nat.{ℕ, zero, suc, _+_, _-_, _*_, min}
 use native.Mathlib.Omega.{arith}
-use lib.Dec.{eqb, ltb, leb}
-use lib.IntN.{ℤ, pos, negsuc, natAbs}
-use borrow.Author.Tests.{eq-eqb, ne-eqb, eqb-true, eqb-false}
+use lib.Dec.{eqb}
+use lib.IntN.{ℤ, pos, negsuc}
+use borrow.Author.Tests.{ne-eqb, eqb-true}
 use Rattle.rules.specs.Lists.{all-pass}
 use Rattle.rules.proofs.Lists.{by-cases, true-false}
-use Rattle.text_numbers.specs.Numbers.{is-decimal, said-on, natural-of, plus-of, minus-of, integer-of}
+use Rattle.text_numbers.specs.Numbers.{is-decimal, said-on, natural-of, minus-of, integer-of}
 use Rattle.text_numbers.proofs.Saying.{decimal-bounds}
 use Rattle.lrat.specs.Lines.{is-d}
-use Rattle.lrat.specs.Machine.{word, between, grown, begin, digit-or, is-word, push, said}
+use Rattle.lrat.specs.Machine.{word, grown, begin, is-word, push, said}
 use Rattle.lrat.specs.declared.LineWord.{LineWord}
 use Rattle.lrat.specs.declared.LineWord.the-variants.{Number, Deletion, Other}
 use Rattle.lrat.specs.declared.ProofWord.{ProofWord}

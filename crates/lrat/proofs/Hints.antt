@@ -1,19 +1,19 @@
 -- The hints of a line, taken one by one as they come, are read as propagation reads them.
 use mathlib.Core.Path.{_≡_, refl, sym, ap, _∙_}
-use mathlib.Core.Bool.{Bool, true, false, not, cond, _&&_, _||_}
+use mathlib.Core.Bool.{Bool, true, false, cond, _||_}
 use mathlib.Core.List.{List, [], _∷_, map}
 use Prim.Native.Nat.{ℕ, zero, suc, _+_, _≤_, _<_, min}
 use native.Mathlib.Omega.{arith}
 use native.Mathlib.Decide.{decLt}
 use lib.Dec.{eqb, leb}
-use lib.IntN.{ℤ, pos, negsuc, negℤ, natAbs}
-use borrow.Author.Tests.{lt-leb, ne-eqb, eqb-true}
+use lib.IntN.{ℤ, pos, negsuc, negℤ}
+use borrow.Author.Tests.{lt-leb, ne-eqb}
 use Rattle.rules.specs.Lists.{all-pass}
-use Rattle.rules.specs.Terms.{Literals, State, everything}
-use Rattle.rules.specs.Propagation.{Named, Allowed, among, named as hint-named, Looked, conflict, forced, bad, judge, also, after, run}
+use Rattle.rules.specs.Terms.{State, everything}
+use Rattle.rules.specs.Propagation.{Allowed, among, named as hint-named, Looked, conflict, forced, bad, judge, also, after, run}
 use Rattle.rules.proofs.Lists.{by-cases, true-false, all-head, all-tail}
 use Rattle.lrat.specs.Checking.{ask, named-by, not-negative, is-proved}
-use Rattle.lrat.specs.Machine.{Reading, note, named, looked-at, take-hint, Step, step, among-hints, take-number, take-word}
+use Rattle.lrat.specs.Machine.{Reading, note, named, looked-at, take-hint, step, among-hints, take-number, take-word}
 use Rattle.lrat.specs.declared.LineWord.the-variants.{Number}
 use Rattle.lrat.proofs.Heard.{capped, number-heard}
 use Rattle.lrat.proofs.Fed.{takes}
@@ -132,7 +132,8 @@ decided-stays (negsuc n ∷ hints) A r d a = true-false (all-head not-negative (
 
 -- a hint that was read, before the others
 read-on : (x : Looked) (n : ℕ) (A : Allowed) (r : Reading) (hints : List ℤ) → all-pass not-negative hints ≡ true → r .line .proof ≡ 0 →
-    ((r′ : Reading) → r′ .line .proof ≡ 0 → eqb (hints-taken A r′ hints .line .proof) 1 ≡ is-proved (run A (r′ .falses) (n + 1) (map named-by hints) .verdict)) →
+    ((r′ : Reading) → r′ .line .proof ≡ 0 →
+    eqb (hints-taken A r′ hints .line .proof) 1 ≡ is-proved (run A (r′ .falses) (n + 1) (map named-by hints) .verdict)) →
     eqb (hints-taken A (looked-at x r) hints .line .proof) 1
     ≡ is-proved (after x n (r .falses) (λ u. run A (also (negℤ u) (r .falses)) (n + 1) (map named-by hints)) .verdict)
 read-on conflict n A r hints a e go = let d = decided-stays hints A (looked-at conflict r) refl a in rw d

@@ -1,9 +1,9 @@
 -- A line: its words, taken by the machine one after the other, come to what the definition asks of the line.
-use mathlib.Core.Path.{_≡_, refl, sym, ap, _∙_}
-use mathlib.Core.Bool.{Bool, true, false, not, cond, _&&_, _||_}
+use mathlib.Core.Path.{_≡_, refl, ap, _∙_}
+use mathlib.Core.Bool.{Bool, true, false, cond, _&&_, _||_}
 use mathlib.Core.List.{List, [], _∷_, _++_, map}
 use mathlib.Core.Option.{Option, none, some}
-use Prim.Native.Nat.{ℕ, zero, suc, _≤_, _<_, min}
+use Prim.Native.Nat.{ℕ, _≤_, _<_, min}
 use native.Mathlib.Omega.{arith}
 use native.Mathlib.Decide.{decLt}
 use lib.Dec.{eqb, ltb, leb}
@@ -12,25 +12,25 @@ use borrow.Author.Tests.{eqb-true, lt-leb, le-leb, leb-true}
 use Rattle.rules.specs.Lists.{all-pass}
 use Rattle.rules.specs.Terms.{Literals, State, holds, null, everything}
 use Rattle.rules.specs.Propagation.{among, run}
-use Rattle.rules.specs.Frames.{LEARN, next, positive}
-use Rattle.rules.proofs.Lists.{by-cases, true-false, and-left, and-right}
+use Rattle.rules.specs.Frames.{positive}
+use Rattle.rules.proofs.Lists.{by-cases, true-false, and-right}
 use Rattle.text.specs.Words.{TextWord}
 use Rattle.text_numbers.specs.Numbers.{natural-of, integer-of}
 use Rattle.lrat.specs.Lines.{Closed, up-to-zero, Line, malformed, addition, deletion, at-end, is-id, with-hints, with-literals, with-ids, is-d, behind-id}
 use Rattle.lrat.specs.Lines.{read-words}
 use Rattle.lrat.specs.Checking.{ask, named-by, not-negative, is-proved, check-line, next-line, is-empty-clause}
-use Rattle.lrat.specs.Machine.{Reading, line-start, note, enter, id-said, take-id, end-literals, Step, step, take-number, take-word, line-code, is-addition}
-use Rattle.lrat.specs.Machine.{addition-fault, addition-code, deletion-code, state-behind}
+use Rattle.lrat.specs.Machine.{Reading, line-start, note, enter, id-said, end-literals, Step, step, take-number, take-word, line-code, is-addition}
+use Rattle.lrat.specs.Machine.{addition-fault, state-behind}
 use Rattle.lrat.specs.declared.LineWord.{LineWord}
 use Rattle.lrat.specs.declared.LineWord.the-variants.{Number, Deletion, Other}
 use Rattle.lrat.proofs.Heard.{capped, number-heard, heard-as, heard}
 use Rattle.lrat.proofs.Fed.{takes, takes-append, heard-words}
 use Rattle.lrat.proofs.Closing.{nonzero, numbers-heard, zero-heard, ClosedBy, Stops, Unclosed, Upto, upto}
-use Rattle.lrat.proofs.Onward.{Onward, word-on, words-on, code-noted, code-unclosed}
+use Rattle.lrat.proofs.Onward.{words-on, code-noted, code-unclosed}
 use Rattle.lrat.proofs.Literals.{AmongLiterals, literals-taken, literals-run, phase-literals, among-yet, literals-noted, noted-most}
-use Rattle.lrat.proofs.Literals.{noted-least, LiteralsTaken, all-literals}
+use Rattle.lrat.proofs.Literals.{noted-least, all-literals}
 use Rattle.lrat.proofs.Hints.{hints-taken, SameLine, hints-same, hints-run, hints-noted, hints-read}
-use Rattle.lrat.proofs.Deleted.{ids-taken, ids-phase, ids-run, negative-noted, IdsTaken, all-ids}
+use Rattle.lrat.proofs.Deleted.{ids-taken, ids-phase, ids-run, negative-noted, all-ids}
 use Rattle.lrat.proofs.Additions.{AdditionRead, addition-judged, passed-kept}
 
 -- what a line's words came to, against the line that they are
@@ -105,7 +105,8 @@ closed-takes ws x t t₂ c e =
     ap (takes t) (c .same) ∙ takes-append (numbers-heard (x .numbers)) (zero-heard ∷ heard-words (x .behind)) t
     ∙ ap (λ y. takes y (zero-heard ∷ heard-words (x .behind))) e
 
-unclosed-takes : (ws : List TextWord) (t t₂ : Step) (u : Unclosed ws) → takes t (numbers-heard (u .numbers)) ≡ t₂ → takes t (heard-words ws) ≡ takes t₂ (u .rest)
+unclosed-takes : (ws : List TextWord) (t t₂ : Step) (u : Unclosed ws) → takes t (numbers-heard (u .numbers)) ≡ t₂ →
+    takes t (heard-words ws) ≡ takes t₂ (u .rest)
 unclosed-takes ws t t₂ u e = ap (takes t) (u .same) ∙ takes-append (numbers-heard (u .numbers)) (u .rest) t ∙ ap (λ y. takes y (u .rest)) e
 
 least-on : (ws : List LineWord) (t t₂ : Step) → t .reading .line .noted ≡ 37 → takes t ws ≡ t₂ → 31 ≤ t₂ .reading .line .noted
@@ -313,7 +314,8 @@ module _ (s : State) (i : ℤ) (r : Reading) (small : s .vars ≤ 2048) (I : IdR
       let ran = literals-run (l ∷ c) s r small (behind-id-read I) n in
       let t = step s (literals-taken (s .vars) r (l ∷ c)) in
       let p = phase-literals c l (s .vars) r in
-      let e : takes (step s r) (numbers-heard (l ∷ c) ++ rest) ≡ takes t rest = takes-append (numbers-heard (l ∷ c)) rest (step s r) ∙ ap (λ y. takes y rest) ran in
+      let e : takes (step s r) (numbers-heard (l ∷ c) ++ rest) ≡ takes t rest =
+      takes-append (numbers-heard (l ∷ c)) rest (step s r) ∙ ap (λ y. takes y rest) ran in
       rw e (stops-short rest t h (least-on _ _ _ (I .noted) ran) (rw p) (rw p) (rw p))
 
   -- closed literals

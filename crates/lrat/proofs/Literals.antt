@@ -1,21 +1,21 @@
 -- The literals of a line, taken one by one: kept where none is past V and at most 256 come, and else a number of refusal is noted.
 use mathlib.Core.Path.{_≡_, refl, sym, ap, _∙_}
-use mathlib.Core.Bool.{Bool, true, false, not, cond, _&&_, _||_}
+use mathlib.Core.Bool.{Bool, true, false, cond, _||_}
 use mathlib.Core.List.{List, [], _∷_, _++_, map, append-nil, append-assoc}
 use Prim.Native.Nat.{ℕ, zero, suc, _+_, _-_, _≤_, _<_, min}
 use native.Mathlib.Omega.{arith}
 use native.Mathlib.Decide.{decLt}
 use native.Mathlib.Nat.{zero-add}
 use lib.Dec.{eqb, ltb, leb}
-use lib.IntN.{ℤ, pos, negsuc, negℤ, natAbs}
+use lib.IntN.{ℤ, pos, negsuc}
 use lib.ListN.{length}
-use borrow.Author.Tests.{le-ltb, le-leb, lt-leb, ltb-true, ltb-false, eqb-false, ne-eqb}
+use borrow.Author.Tests.{le-ltb, le-leb, lt-leb, ltb-true, ltb-false, ne-eqb}
 use Rattle.rules.specs.Lists.{all-pass}
 use Rattle.rules.specs.Terms.{State, in-range}
-use Rattle.rules.proofs.Lists.{by-cases, true-false, not-true, all-head, all-tail}
+use Rattle.rules.proofs.Lists.{by-cases, true-false, all-head, all-tail}
 use Rattle.text_numbers.specs.Told.{with-sign}
 use Rattle.lrat.specs.Checking.{ask}
-use Rattle.lrat.specs.Machine.{Reading, note, enter, keep, take-literal, Step, step, among-literals, take-number, take-word}
+use Rattle.lrat.specs.Machine.{Reading, note, enter, keep, take-literal, step, take-number, take-word}
 use Rattle.lrat.specs.declared.LineWord.the-variants.{Number}
 use Rattle.lrat.proofs.Heard.{capped, number-heard}
 use Rattle.lrat.proofs.Fed.{takes}

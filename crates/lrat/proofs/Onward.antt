@@ -1,19 +1,18 @@
 -- What every word of a line leaves: 31 stays once it is noted, and the tables stay as large.
-use mathlib.Core.Path.{_≡_, refl, sym, ap, _∙_}
-use mathlib.Core.Bool.{Bool, true, false, not, cond, _&&_, _||_}
-use mathlib.Core.List.{List, [], _∷_, _++_}
-use Prim.Native.Nat.{ℕ, zero, suc, _+_, _≤_, min}
+use mathlib.Core.Path.{_≡_, refl, _∙_}
+use mathlib.Core.Bool.{Bool, true, false, _&&_, _||_}
+use mathlib.Core.List.{List, [], _∷_}
+use Prim.Native.Nat.{ℕ, _≤_, min}
 use native.Mathlib.Omega.{arith}
 use lib.Dec.{eqb, ltb, leb}
 use lib.IntN.{ℤ}
 use lib.ListN.{length, length-append}
-use borrow.Author.Tests.{lt-leb}
 use Rattle.rules.specs.Terms.{State, in-range, is-clause, has, everything}
 use Rattle.rules.specs.Propagation.{among, Looked, conflict, forced, bad, judge}
 use Rattle.rules.proofs.Lists.{by-cases}
 use Rattle.text_numbers.specs.Told.{with-sign}
 use Rattle.lrat.specs.Checking.{ask, is-held, gone}
-use Rattle.lrat.specs.Machine.{Reading, note, take-id, keep, take-literal, named, looked-at, take-hint, Step, step, take-deleted, among-literals, among-hints}
+use Rattle.lrat.specs.Machine.{Reading, keep, named, looked-at, Step, step, among-literals, among-hints}
 use Rattle.lrat.specs.Machine.{among-ids, take-number, take-word, addition-fault, line-code, emptied}
 use Rattle.lrat.specs.declared.LineWord.{LineWord}
 use Rattle.lrat.specs.declared.LineWord.the-variants.{Number, Deletion, Other}
@@ -36,7 +35,8 @@ module _ (s : State) (r : Reading) where
   quiet : (r′ : Reading) → r′ .line .noted ≡ r .line .noted → (Counted r → Counted r′) → Onward s r (step s r′)
   quiet r′ e c = record { noted = λ n. e ∙ n; least = λ h. omega (arith, e, h); counted = c; size = refl }
 
-  noting-on : (code : ℕ) (r′ : Reading) → 31 ≤ code → r′ .line .noted ≡ min (r .line .noted) code → (Counted r → Counted r′) → Onward s r (step s r′)
+  noting-on : (code : ℕ) (r′ : Reading) → 31 ≤ code → r′ .line .noted ≡ min (r .line .noted) code → (Counted r → Counted r′) →
+      Onward s r (step s r′)
   noting-on code r′ h e c = record { noted = λ n. omega (arith, e, n, h); least = λ k. omega (arith, e, h, k); counted = c; size = refl }
 
   -- a literal is kept
@@ -46,7 +46,9 @@ module _ (s : State) (r : Reading) where
   literals-on : (minus : Bool) (v : ℕ) → Onward s r (among-literals s minus v r)
   literals-on minus v = by-cases (eqb v 0) (λ e. rw e (quiet _ refl (λ c. c))) λ e.
       by-cases (in-range (s .vars) (with-sign minus v))
-      (λ i. by-cases (ltb (r .line .count) 256) (λ c. rw (e, i, c) (kept-on (with-sign minus v))) (λ c. rw (e, i, c) (noting-on 33 _ (omega arith) refl (λ c. c))))
+      (λ i. by-cases (ltb (r .line .count) 256)
+      (λ c. rw (e, i, c) (kept-on (with-sign minus v)))
+      (λ c. rw (e, i, c) (noting-on 33 _ (omega arith) refl (λ k. k))))
       (λ i. rw (e, i) (noting-on 32 _ (omega arith) refl (λ c. c)))
 
   looked-on : (x : Looked) → Onward s r (step s (looked-at x r))
@@ -57,12 +59,16 @@ module _ (s : State) (r : Reading) where
   hints-on : (minus : Bool) (v : ℕ) → Onward s r (among-hints s minus v r)
   hints-on minus v = by-cases (eqb v 0) (λ e. rw e (quiet _ refl (λ c. c))) λ e.
       by-cases minus (λ i. rw (e, i) (noting-on 36 _ (omega arith) refl (λ c. c))) λ i.
-      by-cases (eqb (r .line .proof) 0) (λ p. rw (e, i, p) (looked-on (judge (r .falses) (named (among (everything s)) v)))) (λ p. rw (e, i, p) (quiet r refl (λ c. c)))
+      by-cases (eqb (r .line .proof) 0)
+      (λ p. rw (e, i, p) (looked-on (judge (r .falses) (named (among (everything s)) v))))
+      (λ p. rw (e, i, p) (quiet r refl (λ c. c)))
 
   ids-on : (minus : Bool) (v : ℕ) → Onward s r (among-ids s minus v r)
   ids-on minus v = by-cases (eqb v 0) (λ e. rw e (quiet _ refl (λ c. c))) λ e.
       by-cases minus (λ i. rw (e, i) (noting-on 31 _ (omega arith) refl (λ c. c))) λ i.
-      by-cases (is-held s v) (λ h. rw (e, i, h) (record { noted = λ n. n; least = λ k. k; counted = λ c. c; size = gone-size s v })) (λ h. rw (e, i, h) (noting-on 35 _ (omega arith) refl (λ c. c)))
+      by-cases (is-held s v)
+      (λ h. rw (e, i, h) (record { noted = λ n. n; least = λ k. k; counted = λ c. c; size = gone-size s v }))
+      (λ h. rw (e, i, h) (noting-on 35 _ (omega arith) refl (λ c. c)))
 
   number-on : (minus : Bool) (v : ℕ) → Onward s r (take-number s minus v r)
   unfolding take-number

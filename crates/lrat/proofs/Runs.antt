@@ -1,19 +1,19 @@
 -- The machine's run over a proof is the definition's answer, wherever the proof is cut, and leaves the tables empty.
 use mathlib.Core.Path.{_≡_, refl, sym, ap, _∙_}
-use mathlib.Core.Bool.{Bool, true, false, not, cond, _&&_, _||_}
+use mathlib.Core.Bool.{Bool, true, false, not, cond}
 use mathlib.Core.List.{List, [], _∷_, _++_, flatten}
 use Prim.Native.Nat.{ℕ, _≤_}
 use native.Mathlib.Omega.{arith}
 use lib.Dec.{eqb}
 use borrow.Author.Tests.{eqb-true}
 use Rattle.rules.specs.Lists.{all-pass}
-use Rattle.rules.specs.Terms.{Literals, State, null}
-use Rattle.rules.proofs.Lists.{by-cases, true-false, not-true, all-nil, all-cons, all-append}
+use Rattle.rules.specs.Terms.{Literals, State}
+use Rattle.rules.proofs.Lists.{by-cases, true-false, all-nil, all-cons, all-append}
 use Rattle.text.specs.Words.{is-blank}
 use Rattle.text.specs.Places.{goes-on}
 use Rattle.lrat.specs.Lines.{Line, malformed, addition, deletion, proof-lines, words-in, read-line}
 use Rattle.lrat.specs.Checking.{gone, all-gone, check-line, next-line, is-empty-clause, answer, one-more, by-line, check-lines, check-proof}
-use Rattle.lrat.specs.Machine.{at-start, is-word, said, step, Step, line-code, is-addition, Session, emptied, started, word-taken, end-word, close-line, move, run}
+use Rattle.lrat.specs.Machine.{at-start, is-word, said, step, Step, Session, emptied, started, word-taken, end-word, close-line, move, run}
 use Rattle.lrat.specs.Machine.{line-closed, unproved, decided, finish, told}
 use Rattle.lrat.specs.declared.LratAnswer.{LratAnswer}
 use Rattle.lrat.proofs.Fed.{takes, heard-words, run-on, blank-moved, byte-moved, line-fed, begun-on}

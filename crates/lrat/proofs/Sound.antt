@@ -1,9 +1,9 @@
 -- "An accepted file means that the CNF has no model."
 --
--- Every held clause follows from the text's: the text's own do, an addition that passes follows by propagation, and a deletion only removes. The empty clause has
--- no model.
-use mathlib.Core.Path.{_≡_, refl, sym, ap, _∙_}
-use mathlib.Core.Bool.{Bool, true, false, cond, false≢true}
+-- Every held clause follows from the text's: the text's own do, an addition that passes follows by propagation, and a deletion only removes. The empty clause
+-- has no model.
+use mathlib.Core.Path.{_≡_, refl}
+use mathlib.Core.Bool.{Bool, true, false}
 use mathlib.Core.List.{List, [], _∷_, map}
 use Prim.Native.Nat.{ℕ, _+_, _<_}
 use native.Mathlib.Omega.{arith}
@@ -12,7 +12,7 @@ use lib.IntN.{ℤ}
 use lib.ListN.{length}
 use borrow.Author.Tests.{eqb-true, eqb-false}
 use Rattle.rules.specs.Lists.{any-passes, all-pass}
-use Rattle.rules.specs.Terms.{State, in-range, is-clause, Assignment, sat, null, has, everything, room}
+use Rattle.rules.specs.Terms.{State, in-range, is-clause, Assignment, sat, has, everything, room}
 use Rattle.rules.specs.Propagation.{among, proves}
 use Rattle.rules.specs.Frames.{ADD, LEARN, next}
 use Rattle.rules.specs.Answers.{lent}
@@ -27,8 +27,8 @@ use Rattle.dimacs.specs.declared.TextFault.{TextFault}
 use Rattle.dimacs.specs.declared.TextFault.the-variants.{NoProblemLine, SecondProblemLine, MalformedWord, PastDeclared, VariableTwice, LongClause}
 use Rattle.dimacs.specs.declared.TextFault.the-variants.{VarsOutOfRange, UnclosedClause, WrongClauseCount}
 use Rattle.lrat.specs.Lines.{Line, malformed, addition, deletion, proof-lines, read-line}
-use Rattle.lrat.specs.Checking.{ask, named-by, gone, not-negative, is-proved, ask-room, check-addition, check-deletion, all-gone, check-line, next-line}
-use Rattle.lrat.specs.Checking.{is-empty-clause, one-more, check-lines, check-proof, fill, opened-for, against, against-text, lrat}
+use Rattle.lrat.specs.Checking.{ask, named-by, gone, not-negative, is-proved, ask-room, check-addition, all-gone, check-line, next-line}
+use Rattle.lrat.specs.Checking.{is-empty-clause, one-more, check-lines, fill, opened-for, against, against-text, lrat}
 
 -- ---- what was asked
 
