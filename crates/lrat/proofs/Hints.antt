@@ -53,7 +53,9 @@ module _ (s : State) (r : Reading) (at : r .line .phase ≡ 3) where
       let z : eqb (capped (suc n)) 0 ≡ false = ne-eqb (capped (suc n)) 0 (λ q. omega arith) in
       number-in-hints false (capped (suc n))
       ∙ rw z (ap (λ x. step s (cond (eqb (r .line .proof) 0) (looked-at (judge (r .falses) x) r) r)) (capped-named (among (everything s)) (suc n)))
-  word-taken (negsuc n) e = let z : eqb (capped (suc n)) 0 ≡ false = ne-eqb (capped (suc n)) 0 (λ q. omega arith) in number-in-hints true (capped (suc n)) ∙ rw z
+  word-taken (negsuc n) e =
+      let z : eqb (capped (suc n)) 0 ≡ false = ne-eqb (capped (suc n)) 0 (λ q. omega arith) in
+      number-in-hints true (capped (suc n)) ∙ rw z
 
 -- ---- what a hint leaves as it was
 
