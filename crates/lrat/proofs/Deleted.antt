@@ -39,9 +39,9 @@ capped-held s n r = of (decLt n 4294967296)
     of (no k) = let a = lt-leb (capped n) 2147483647 (omega arith) in let b = lt-leb n 2147483647 (omega arith) in rw (a, b)
 
 module _ (s : State) (r : Reading) (at : r .line .phase ≡ 5) where
-  numbers-here : (minus : Bool) (v : ℕ) → take-word s (Number minus v) r ≡ among-ids s minus v r
+  pub number-in-ids : (minus : Bool) (v : ℕ) → take-word s (Number minus v) r ≡ among-ids s minus v r
   unfolding take-word take-number
-  numbers-here minus v =
+  number-in-ids minus v =
       let a : eqb (r .line .phase) 0 ≡ false = rw at in
       let b : (eqb (r .line .phase) 1 || eqb (r .line .phase) 2) ≡ false = rw at in
       let c : eqb (r .line .phase) 3 ≡ false = rw at in
@@ -52,8 +52,8 @@ module _ (s : State) (r : Reading) (at : r .line .phase ≡ 5) where
   word-taken (pos zero) e = true-false e refl
   word-taken (pos (suc n)) e =
       let z : eqb (capped (suc n)) 0 ≡ false = ne-eqb (capped (suc n)) 0 (λ q. omega arith) in
-      numbers-here false (capped (suc n)) ∙ rw z (capped-held s (suc n) r)
-  word-taken (negsuc n) e = let z : eqb (capped (suc n)) 0 ≡ false = ne-eqb (capped (suc n)) 0 (λ q. omega arith) in numbers-here true (capped (suc n)) ∙ rw z
+      number-in-ids false (capped (suc n)) ∙ rw z (capped-held s (suc n) r)
+  word-taken (negsuc n) e = let z : eqb (capped (suc n)) 0 ≡ false = ne-eqb (capped (suc n)) 0 (λ q. omega arith) in number-in-ids true (capped (suc n)) ∙ rw z
 
 id-phase : (z : ℤ) (t : Step) → id-taken z t .reading .line .phase ≡ t .reading .line .phase
 id-phase (pos n) t = by-cases (is-held (t .state) n) (λ e. rw e) (λ e. rw e)

@@ -39,9 +39,9 @@ capped-named A n = of (decLt n 4294967296)
     of (no k) = let a = lt-leb (capped n) 2147483647 (omega arith) in let b = lt-leb n 2147483647 (omega arith) in rw (a, b)
 
 module _ (s : State) (r : Reading) (at : r .line .phase ≡ 3) where
-  numbers-here : (minus : Bool) (v : ℕ) → take-word s (Number minus v) r ≡ among-hints s minus v r
+  pub number-in-hints : (minus : Bool) (v : ℕ) → take-word s (Number minus v) r ≡ among-hints s minus v r
   unfolding take-word take-number
-  numbers-here minus v =
+  number-in-hints minus v =
       let a : eqb (r .line .phase) 0 ≡ false = rw at in
       let b : (eqb (r .line .phase) 1 || eqb (r .line .phase) 2) ≡ false = rw at in
       let c : eqb (r .line .phase) 3 ≡ true = rw at in
@@ -51,9 +51,11 @@ module _ (s : State) (r : Reading) (at : r .line .phase ≡ 3) where
   word-taken (pos zero) e = true-false e refl
   word-taken (pos (suc n)) e =
       let z : eqb (capped (suc n)) 0 ≡ false = ne-eqb (capped (suc n)) 0 (λ q. omega arith) in
-      numbers-here false (capped (suc n))
+      number-in-hints false (capped (suc n))
       ∙ rw z (ap (λ x. step s (cond (eqb (r .line .proof) 0) (looked-at (judge (r .falses) x) r) r)) (capped-named (among (everything s)) (suc n)))
-  word-taken (negsuc n) e = let z : eqb (capped (suc n)) 0 ≡ false = ne-eqb (capped (suc n)) 0 (λ q. omega arith) in numbers-here true (capped (suc n)) ∙ rw z
+  word-taken (negsuc n) e =
+      let z : eqb (capped (suc n)) 0 ≡ false = ne-eqb (capped (suc n)) 0 (λ q. omega arith) in
+      number-in-hints true (capped (suc n)) ∙ rw z
 
 -- ---- what a hint leaves as it was
 

@@ -18,6 +18,8 @@ pub mod Additions
 pub mod Lines
 -- The run over a proof.
 pub mod Runs
+-- Both texts.
+pub mod Whole
 -- An accepted proof means that the text has no model.
 pub mod Sound
 -- Small proofs, by computing.

@@ -1,6 +1,6 @@
 -- A line: its words, taken by the machine one after the other, come to what the definition asks of the line.
 use mathlib.Core.Path.{_≡_, refl, ap, _∙_}
-use mathlib.Core.Bool.{Bool, true, false, cond, _&&_, _||_}
+use mathlib.Core.Bool.{Bool, true, false, cond, _&&_}
 use mathlib.Core.List.{List, [], _∷_, _++_, map}
 use mathlib.Core.Option.{Option, none, some}
 use Prim.Native.Nat.{ℕ, _≤_, _<_, min}
@@ -29,8 +29,8 @@ use Rattle.lrat.proofs.Closing.{nonzero, numbers-heard, zero-heard, Clo
 use Rattle.lrat.proofs.Onward.{words-on, code-noted, code-unclosed}
 use Rattle.lrat.proofs.Literals.{AmongLiterals, literals-taken, literals-run, phase-literals, among-yet, literals-noted, noted-most}
 use Rattle.lrat.proofs.Literals.{noted-least, all-literals}
-use Rattle.lrat.proofs.Hints.{hints-taken, SameLine, hints-same, hints-run, hints-noted, hints-read}
-use Rattle.lrat.proofs.Deleted.{ids-taken, ids-phase, ids-run, negative-noted, all-ids}
+use Rattle.lrat.proofs.Hints.{number-in-hints, hints-taken, SameLine, hints-same, hints-run, hints-noted, hints-read}
+use Rattle.lrat.proofs.Deleted.{number-in-ids, ids-taken, ids-phase, ids-run, negative-noted, all-ids}
 use Rattle.lrat.proofs.Additions.{AdditionRead, addition-judged, passed-kept}
 
 -- what a line's words came to, against the line that they are
@@ -126,14 +126,7 @@ module _ (is : List ℤ) (s : State) (r : Reading) (at : r .line .phase ≡ 5) (
   ids-shut = record { none-before = refl; no-id = refl; no-literals = refl; no-hints = refl; no-deletion = refl }
 
   zero-closes : take-word (ids-behind .state) zero-heard (ids-behind .reading) ≡ ids-closed
-  unfolding take-word take-number
-  zero-closes =
-      let p = ids-phase is (step s r) ∙ at in
-      let a : eqb (ids-behind .reading .line .phase) 0 ≡ false = rw p in
-      let b : (eqb (ids-behind .reading .line .phase) 1 || eqb (ids-behind .reading .line .phase) 2) ≡ false = rw p in
-      let c : eqb (ids-behind .reading .line .phase) 3 ≡ false = rw p in
-      let d : eqb (ids-behind .reading .line .phase) 5 ≡ true = rw p in
-      rw (a, b, c, d)
+  zero-closes = number-in-ids (ids-behind .state) (ids-behind .reading) (ids-phase is (step s r) ∙ at) false 0
 
   ids-read : LineRead s (cond (all-pass positive is) (deletion (map natAbs is)) malformed) ids-closed
   unfolding check-line line-code
@@ -207,13 +200,7 @@ module _ (hints : List ℤ) (s : State) (i : ℤ) (c : List ℤ) (r : Reading) (
   same-line = hints-same hints (among (everything s)) r
 
   zero-ends : take-word s zero-heard hints-behind ≡ hints-closed
-  unfolding take-word take-number
-  zero-ends =
-      let p = same-line .phase ∙ L .phase in
-      let a : eqb (hints-behind .line .phase) 0 ≡ false = rw p in
-      let b : (eqb (hints-behind .line .phase) 1 || eqb (hints-behind .line .phase) 2) ≡ false = rw p in
-      let d : eqb (hints-behind .line .phase) 3 ≡ true = rw p in
-      rw (a, b, d)
+  zero-ends = number-in-hints s hints-behind (same-line .phase ∙ L .phase) false 0
 
   addition-parts : is-id i ≡ true → AdditionRead s (natAbs i) c hints (enter 4 hints-behind)
   addition-parts e =
