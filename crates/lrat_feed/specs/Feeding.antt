@@ -1,6 +1,6 @@
 -- What feeding a proof to the working table comes to: the machine's run.
 use mathlib.Core.Path.{_≡_}
-use mathlib.Core.Bool.{false}
+use mathlib.Core.Bool.{true, false}
 use mathlib.Core.List.{List}
 use Prim.Native.Nat.{ℕ, _≤_}
 use lib.IntN.{ℤ}
@@ -9,12 +9,21 @@ use Rattle.table.specs.Spelled.{Row, spelled, Fit}
 use Rattle.table.specs.declared.Table.{Table}
 use Rattle.lrat.specs.Kept.{Keeps}
 use Rattle.lrat.specs.Machine.{Session, at-start, line-start}
+use Rattle.lrat.specs.declared.ProofWord.{ProofWord}
 use Rattle.lrat.specs.declared.ProofReader.{ProofReader}
 use Rattle.lrat_line.specs.Lines.{reading}
 use Rattle.lrat_feed.specs.declared.Fed.{Fed}
 
 abbrev pub start-reader : ProofReader
 start-reader = record { word = at-start; line = line-start; lines = 0; over = false; code = 0 }
+
+-- the same with another word on its way
+abbrev pub worded : ProofWord → ProofReader → ProofReader
+worded w r = record { word = w; line = r .line; lines = r .lines; over = r .over; code = r .code }
+
+-- the answer is 38
+abbrev pub refused-at-end : ProofReader → ProofReader
+refused-at-end r = record { word = at-start; line = r .line; lines = r .lines; over = true; code = 38 }
 
 -- what a reader, the buffer of literals, the two arrays of the false ones and the tables hold
 abbrev pub session-of : ProofReader → List ℤ → List ℕ → List ℕ → State → Session

@@ -7,10 +7,11 @@ ghost use lib.Dec.{eqb};
 ghost use Rattle.table.specs.Spelled.{spelled};
 ghost use Rattle.lrat.specs.Checking as paper;
 ghost use Rattle.lrat.specs.Machine as machine;
-ghost use Rattle.lrat_feed.specs.Feeding.{Feedable, Feeds, session-of, start-reader};
+ghost use Rattle.lrat_feed.specs.Feeding.{Feedable, Feeds, session-of, start-reader, worded, refused-at-end};
 use lrat::LratAnswer;
 use lrat::ProofLine;
 use lrat::ProofReader;
+use lrat::ProofWord;
 use table::Row;
 use table::Table;
 
@@ -50,6 +51,20 @@ pub fn start() -> ProofReader
 
 // ---- a word ends
 
+// The same with another word on its way.
+fn with_word(r: ProofReader, word: ProofWord) -> ProofReader
+    ensures { λ q. ⌜ q ≡ worded word r ⌝ }
+{
+    let line = r.line;
+    ProofReader {
+        word,
+        line,
+        lines: r.lines,
+        over: r.over,
+        code: r.code,
+    }
+}
+
 fn end_word(
     rows: &mut [Row],
     pool: &[i32],
@@ -65,17 +80,27 @@ fn end_word(
         (spelled t (now (rows .entry)) (now (pool .entry)) (now (stack .entry)))))
         q (now (rows .exit)) (now (pool .entry)) (now (stack .entry)) (now (lits .exit)) (now (plus .exit)) (now (minus .exit)) ⌝ }
 {
-    let mut reader = r;
-    reader.word = lrat_words::between();
-    if !lrat_words::is_word(r.word) {
-        return Fed { table: t, reader };
+    let word = r.word;
+    if !lrat_words::is_word(word) {
+        return Fed {
+            table: t,
+            reader: with_word(r, lrat_words::between()),
+        };
     }
-    let word = lrat_words::said(r.word);
-    let taken = lrat_line::take_word(rows, pool, stack, t, r.line, lits, plus, minus, word);
-    reader.line = taken.line;
+    let before = r.line;
+    let said = lrat_words::said(word);
+    let taken = lrat_line::take_word(rows, pool, stack, t, before, lits, plus, minus, said);
+    let table = taken.table;
+    let line = taken.line;
     Fed {
-        table: taken.table,
-        reader,
+        table,
+        reader: ProofReader {
+            word: lrat_words::between(),
+            line,
+            lines: r.lines,
+            over: r.over,
+            code: r.code,
+        },
     }
 }
 
@@ -104,9 +129,11 @@ fn close_line(
         (spelled t (now (rows .entry)) (now (pool .entry)) (now (stack .entry)))))
         q (now (rows .exit)) (now (pool .exit)) (now (stack .entry)) (now (lits .entry)) plus minus) ⌝ }
 {
-    let closed = lrat_close::close_line(rows, pool, stack, t, r.line, lits);
+    let line = r.line;
+    let closed = lrat_close::close_line(rows, pool, stack, t, line, lits);
+    let table = closed.table;
     Fed {
-        table: closed.table,
+        table,
         reader: ProofReader {
             word: lrat_words::at_start(),
             line: line_start(),
@@ -143,9 +170,10 @@ pub fn feed(
         if reader.over {
             break;
         }
-        let taken = lrat_words::take_bytes(part, i, reader.word);
+        let word = reader.word;
+        let taken = lrat_words::take_bytes(part, i, word);
         i = taken.from;
-        reader.word = taken.word;
+        reader = with_word(reader, taken.word);
         if i == part.len() {
             break;
         }
@@ -189,7 +217,23 @@ fn end_line(
         };
     }
     let ended = end_word(rows, pool, stack, t, r, lits, plus, minus);
-    close_line(rows, pool, stack, ended.table, ended.reader, lits)
+    let table = ended.table;
+    let reader = ended.reader;
+    close_line(rows, pool, stack, table, reader, lits)
+}
+
+// The answer is 38.
+fn unproved(r: ProofReader) -> ProofReader
+    ensures { λ q. ⌜ q ≡ refused-at-end r ⌝ }
+{
+    let line = r.line;
+    ProofReader {
+        word: lrat_words::at_start(),
+        line,
+        lines: r.lines,
+        over: true,
+        code: 38,
+    }
 }
 
 // Ends the proof: without an empty clause it is refused 38.
@@ -215,16 +259,14 @@ pub fn finish(
         };
     }
     let ended = end_line(rows, pool, stack, t, r, lits, plus, minus);
-    let mut reader = ended.reader;
+    let reader = ended.reader;
     if reader.over {
         return ended;
     }
-    reader.word = lrat_words::at_start();
-    reader.over = true;
-    reader.code = 38;
+    let table = ended.table;
     Fed {
-        table: lrat_close::emptied(ended.table),
-        reader,
+        table: lrat_close::emptied(table),
+        reader: unproved(reader),
     }
 }
 
