@@ -1,1 +1,2 @@
--- Empty for now.
+-- What a number does, by the line's phase: among the literals.
+pub mod Literals

@@ -1,73 +1,54 @@
+-- Each return is one law of Literals.
+use mathlib.Core.Logic.{⊎-elim, inl, inr}
+use Prim.Native.Nat.{_≤_}
+use native.Mathlib.Omega.{arith}
 use borrow.Author.Needs.{needs}
+use borrow.Author.Tests.{ltb-true, ltb-false}
+use Rattle.lrat_line.proofs.Literals.{out-of-range, too-many, kept-behind}
 use Rattle.lrat_line.proofs.take_literal.Statement.{statement}
 use Rattle.lrat_line.proofs.take_literal.Tie as tie
-use Rattle.lrat_line.proofs.take_literal.Reads as reads
-use Rattle.lrat_line.proofs.take_literal.Lts as lts
-use Rattle.lit.proofs.literal_of.Reads as literal-of-reads
-use Rattle.lrat_line.proofs.enter.Reads as enter-reads
-use Rattle.lrat_line.proofs.note.Reads as note-reads
 
--- src/lib.rt:61:9
-enter-requires : tie.Need-enter-requires
-enter-requires c κs = search needs
+-- the number is a variable
+module _ (z : tie.Else2) where
+  abbrev start : tie.Start
+  start = z .before .before .before
 
--- src/lib.rt:63:9
-note-requires : tie.Need-note-requires
-note-requires c κs = search needs
+  within : start .args .v ≤ start .args .vars
+  within = ltb-false (start .args .vars) (start .args .v) (z .if2 .left)
 
--- src/lib.rt:63:9
 returns : tie.Need-returns
-returns c = ?
+returns c =
+    let e = c .before .before in
+    out-of-range _ _ _ _ _ (e .before .pre .1) (e .enter .ensures)
+    (⊎-elim (λ w. inl (w .taken)) (λ w. inr (ltb-true _ _ (w .1 .taken))) (c .before .if1 .came)) (c .note .ensures)
 
--- src/lib.rt:65:13
-cast-n : tie.Need-cast-n
-cast-n c = search needs
-
--- src/lib.rt:67:9
-note-requires-2 : tie.Need-note-requires-2
-note-requires-2 c κs = search needs
-
--- src/lib.rt:67:9
 returns-2 : tie.Need-returns-2
-returns-2 c = ?
+returns-2 c =
+    let z = c .before .before .before in
+    let e = z .before .before in
+    too-many _ _ _ _ _ (e .before .pre .1) (e .enter .ensures) (z .before .if1 .left) (within z) (c .before .if3 .taken) (c .note2 .ensures)
 
--- src/lib.rt:69:15
-literal-of-requires : tie.Need-literal-of-requires
-literal-of-requires c κs = ?
-
--- src/lib.rt:69:5
-mul-t13 : tie.Need-mul-t13
-mul-t13 c = search needs
-
--- src/lib.rt:69:5
-slice-set-from-lits : tie.Need-slice-set-from-lits
-slice-set-from-lits c = search needs
-
--- src/lib.rt:70:15
-add-r : tie.Need-add-r
-add-r c = search needs
-
--- src/lib.rt:57:1
-same-length : tie.Need-same-length
-same-length c = search needs
-
--- src/lib.rt:57:1
 returns-3 : tie.Need-returns-3
-returns-3 c = ?
+returns-3 c =
+    let x = c .before in
+    let z = x .before .before .before in
+    let e = z .before .before in
+    kept-behind _ _ _ _ _ (e .before .pre .1) (e .enter .ensures) (z .before .if1 .left) (within z) (x .before .if3 .left) (e .before .pre .0)
+    (x .literal-of .ensures)
 
 pub take-literal-spec : {M : Type 1} → statement M
 take-literal-spec =
     tie.close
     (tie.spec
-    enter-requires
-    note-requires
+    (λ c κs. search needs)  -- enter-requires
+    (λ c κs. search needs)  -- note-requires
     returns
-    cast-n
-    note-requires-2
+    (λ c. search needs)  -- cast-n
+    (λ c κs. search needs)  -- note-requires-2
     returns-2
-    literal-of-requires
-    mul-t13
-    slice-set-from-lits
-    add-r
-    same-length
+    (λ c κs. let z = c .before .before in omega (arith, within z, start z .pre .0))  -- literal-of-requires
+    (λ c. search needs)  -- mul-t13
+    (λ c. search needs)  -- slice-set-from-lits
+    (λ c. search needs)  -- add-r
+    (λ c. search needs)  -- same-length
     returns-3)
