@@ -12,16 +12,17 @@ use lib.Seq.{take-suc-set}
 use mir.Syntax.{w32}
 use mir.Val.{SFits}
 use mir.Facts.{toZ-ofZ}
-use borrow.Author.Tests.{ltb-true, lt-ltb, le-ltb}
+use borrow.Author.Tests.{ltb-true, lt-ltb, le-ltb, eq-eqb, ne-eqb}
 use Rattle.rules.specs.Lists.{all-pass}
 use Rattle.rules.specs.Terms.{Literals, in-range}
 use Rattle.rules.proofs.Lists.{all-nil, all-cons, all-append}
 use Rattle.lit.proofs.Signed.{back, wider}
+use Rattle.lit_sets.specs.Words.{set-of}
 use Rattle.text_numbers.specs.Told.{with-sign}
 use Rattle.lrat.specs.Kept.{Keeps, read-with}
 use Rattle.lrat.specs.Machine.{noting, in-phase, note, enter, keep, take-literal}
 use Rattle.lrat.specs.declared.ProofLine.{ProofLine}
-use Rattle.lrat_line.specs.Lines.{LiteralTaken}
+use Rattle.lrat_line.specs.Lines.{reading, LiteralTaken, LiteralsEnded, LineRead, literal-or-end}
 
 -- ---- a number with its sign as a literal
 
@@ -93,3 +94,16 @@ module _ (vars : ℕ) (minus : Bool) (v : ℕ) (l : ProofLine) (lits : List ℤ)
             keeps = record { long = length-set lits (l .count) (with-sign minus v) ∙ k .long; few = omega (arith, room); ranged = rw o ranged };
             taken = λ F. rw (t, m, o);
           })
+
+-- ---- 0 ends them
+
+module _ (vars : ℕ) (minus : Bool) (v : ℕ) (l : ProofLine) (lits : List ℤ) (P M : List ℕ) {r : ProofLine} where
+  pub literals-end : {P′ M′ : List ℕ} → v ≡ 0 → Keeps l lits → LiteralsEnded l lits r P′ M′
+      → LineRead (literal-or-end vars minus v (reading l lits P M)) r lits P′ M′
+  literals-end h k q =
+      let z = eq-eqb v 0 h in
+      rw (q .0) (record { keeps = record { long = k .long; few = k .few; ranged = k .ranged }; taken = rw (z, q .1) })
+
+  pub literal-more : {lits′ : List ℤ} → (v ≡ 0 → ⊥) → LiteralTaken vars minus v l lits r lits′
+      → LineRead (literal-or-end vars minus v (reading l lits P M)) r lits′ P M
+  literal-more h q = let z = ne-eqb v 0 h in record { keeps = q .keeps; taken = rw z (q .taken (set-of P M)) }
