@@ -1,5 +1,5 @@
 -- A number among the literals: a literal in range goes behind those that are kept, where there is room; else a number of refusal is noted.
-use mathlib.Core.Path.{_≡_, refl, sym, _∙_, ap}
+use mathlib.Core.Path.{_≡_, refl, _∙_}
 use mathlib.Core.Logic.{_⊎_, ⊎-elim}
 use mathlib.Core.Bool.{Bool, true, false}
 use mathlib.Core.List.{List, [], _∷_, _++_}
@@ -7,20 +7,20 @@ use Prim.Native.Nat.{ℕ, zero, suc, _+_, _≤_, _<_}
 use native.Mathlib.Omega.{arith}
 use native.Mathlib.Numerals.{add-one}
 use lib.IntN.{ℤ, pos, negsuc}
-use lib.ListN.{length, take, set, length-set}
+use lib.ListN.{take, set, length-set}
 use lib.Seq.{take-suc-set}
 use mir.Syntax.{w32}
 use mir.Val.{SFits}
 use mir.Facts.{toZ-ofZ}
 use borrow.Author.Tests.{ltb-true, lt-ltb, le-ltb, eq-eqb, ne-eqb}
 use Rattle.rules.specs.Lists.{all-pass}
-use Rattle.rules.specs.Terms.{Literals, in-range}
+use Rattle.rules.specs.Terms.{in-range}
 use Rattle.rules.proofs.Lists.{all-nil, all-cons, all-append}
 use Rattle.lit.proofs.Signed.{back, wider}
 use Rattle.lit_sets.specs.Words.{set-of}
 use Rattle.text_numbers.specs.Told.{with-sign}
-use Rattle.lrat.specs.Kept.{Keeps, read-with}
-use Rattle.lrat.specs.Machine.{noting, in-phase, note, enter, keep, take-literal}
+use Rattle.lrat.specs.Kept.{Keeps}
+use Rattle.lrat.specs.Machine.{noting, in-phase}
 use Rattle.lrat.specs.declared.ProofLine.{ProofLine}
 use Rattle.lrat_line.specs.Lines.{reading, LiteralTaken, LiteralsEnded, LineRead, literal-or-end}
 

@@ -1,5 +1,5 @@
--- A number by the line's phase: each phase's reading is the machine's step.
-use mathlib.Core.Path.{_≡_, refl, sym, _∙_, ap, subst}
+-- A word, and a number by the line's phase: what is read of each is the machine's step.
+use mathlib.Core.Path.{_≡_, refl, sym, _∙_, ap}
 use mathlib.Core.Bool.{Bool, true, false, _||_}
 use mathlib.Core.List.{List}
 use Prim.Native.Nat.{ℕ, zero, suc, _≤_, _<_}
@@ -13,7 +13,9 @@ use Rattle.lit_sets.specs.Words.{set-of}
 use Rattle.table.specs.Spelled.{Row, spelled, Fit}
 use Rattle.table.specs.declared.Table.{Table}
 use Rattle.lrat.specs.Kept.{Keeps, read-with}
-use Rattle.lrat.specs.Machine.{Reading, step, noting, note, take-id, id-said, among-literals, among-hints, among-ids, take-number}
+use Rattle.lrat.specs.Machine.{Reading, Step, step, noting, note, in-phase, take-id, id-said, among-literals, among-hints, among-ids, take-number, take-word}
+use Rattle.lrat.specs.declared.LineWord.{LineWord}
+use Rattle.lrat.specs.declared.LineWord.the-variants.{Number, Deletion, Other}
 use Rattle.lrat.specs.declared.ProofLine.{ProofLine}
 use Rattle.lrat_line.specs.Lines.{reading, LineRead, literal-or-end, HintTaken, hint-or-end, DeletedTaken, Takes}
 use Rattle.lrat_line.specs.declared.Taken.{Taken}
@@ -82,50 +84,71 @@ module _ (l r : ProofLine) (lits : List ℤ) (e : r .count ≡ l .count) where
   reading-on : (P M : List ℕ) → reading r lits P M ≡ read-with r (take (l .count) lits) (set-of P M)
   reading-on P M = rw e
 
--- ---- a number
+-- ---- from a line with what goes with it
 
 module _ {t : Table} {rows : List Row} {pool : List ℤ} {stack : List ℕ} (f : Fit t rows pool stack) (l : ProofLine) (lits : List ℤ) (k : Keeps l lits)
-    (P M : List ℕ) (minus : Bool) (v : ℕ) where
+    (P M : List ℕ) where
   abbrev s : State
   s = spelled t rows pool stack
 
   abbrev before : Reading
   before = reading l lits P M
 
-  -- the id of the line
-  pub number-id : {i : ℕ} → l .phase ≡ 0 → i ≡ id-said minus v →
-      Takes (take-number s minus v before)
-      (record { table = t; line = record { phase = 1; noted = l .noted; id = i; count = l .count; proof = l .proof } }) rows pool stack lits P M
-  number-id z e =
-      let q = at-id s minus v before z in
-      rw e (record { fit = f; keeps = record { long = k .long; few = k .few; ranged = k .ranged }; taken = sym q })
+  -- the tables and the literals stay
+  line-on : (r : ProofLine) {P′ M′ : List ℕ} {whole : Step} → r .count ≡ l .count → step s (read-with r (take (l .count) lits) (set-of P′ M′)) ≡ whole →
+      Takes whole (record { table = t; line = r }) rows pool stack lits P′ M′
+  line-on r {P′} {M′} e q = record { fit = f; keeps = keeps-on l r lits e k; taken = ap (step s) (reading-on l r lits e P′ M′) ∙ q }
 
-  pub number-literal : {r : ProofLine} {lits′ : List ℤ} {P′ M′ : List ℕ} → (l .phase ≡ 0 → ⊥) → l .phase < 3 →
-      LineRead (literal-or-end (t .vars) minus v before) r lits′ P′ M′ →
-      Takes (take-number s minus v before) (record { table = t; line = r }) rows pool stack lits′ P′ M′
-  number-literal n h q =
-      record { fit = f; keeps = q .keeps; taken = ap (step s) (q .taken) ∙ sym (at-literals s minus v before n h) }
+  -- ---- a number
 
-  pub number-hint : {r : ProofLine} {P′ M′ : List ℕ} → l .phase ≡ 3 → HintTaken (hint-or-end s minus v) l P M r P′ M′ →
-      Takes (take-number s minus v before) (record { table = t; line = r }) rows pool stack lits P′ M′
-  number-hint {r} {P′} {M′} e q = record {
-    fit = f;
-    keeps = keeps-on l r lits (q .counted) k;
-    taken = ap (step s) (reading-on l r lits (q .counted) P′ M′ ∙ q .taken (take (l .count) lits)) ∙ sym (at-hints s minus v before (omega arith) e);
-  }
+  module _ (minus : Bool) (v : ℕ) where
+    -- the id of the line
+    pub number-id : {i : ℕ} → l .phase ≡ 0 → i ≡ id-said minus v →
+        Takes (take-number s minus v before)
+        (record { table = t; line = record { phase = 1; noted = l .noted; id = i; count = l .count; proof = l .proof } }) rows pool stack lits P M
+    number-id z e = let q = at-id s minus v before z in rw e (line-on _ refl (sym q))
 
-  pub number-deleted : {r : Taken} {rows′ : List Row} → l .phase ≡ 5 → DeletedTaken (among-ids s minus v) pool stack l r rows′ →
-      Takes (take-number s minus v before) r rows′ pool stack lits P M
-  number-deleted {r} {rows′} e q = record {
-    fit = q .fit;
-    keeps = keeps-on l (r .line) lits (q .counted) k;
-    taken =
-        ap (step (spelled (r .table) rows′ pool stack)) (reading-on l (r .line) lits (q .counted) P M) ∙ q .taken (take (l .count) lits) (set-of P M)
-        ∙ sym (at-ids s minus v before (omega arith) (λ z. omega (arith, e, z)) e);
-  }
+    pub number-literal : {r : ProofLine} {lits′ : List ℤ} {P′ M′ : List ℕ} → (l .phase ≡ 0 → ⊥) → l .phase < 3 →
+        LineRead (literal-or-end (t .vars) minus v before) r lits′ P′ M′ →
+        Takes (take-number s minus v before) (record { table = t; line = r }) rows pool stack lits′ P′ M′
+    number-literal n h q = record { fit = f; keeps = q .keeps; taken = ap (step s) (q .taken) ∙ sym (at-literals s minus v before n h) }
 
-  pub number-misplaced : {r : ProofLine} → 3 ≤ l .phase → (l .phase ≡ 3 → ⊥) → (l .phase ≡ 5 → ⊥) → r ≡ noting 31 l →
-      Takes (take-number s minus v before) (record { table = t; line = r }) rows pool stack lits P M
-  number-misplaced h n m e =
-      let q = elsewhere s minus v before h n m in
-      rw e (record { fit = f; keeps = record { long = k .long; few = k .few; ranged = k .ranged }; taken = sym q })
+    pub number-hint : {r : ProofLine} {P′ M′ : List ℕ} → l .phase ≡ 3 → HintTaken (hint-or-end s minus v) l P M r P′ M′ →
+        Takes (take-number s minus v before) (record { table = t; line = r }) rows pool stack lits P′ M′
+    number-hint {r} e q = line-on r (q .counted) (ap (step s) (q .taken (take (l .count) lits)) ∙ sym (at-hints s minus v before (omega arith) e))
+
+    pub number-deleted : {r : Taken} {rows′ : List Row} → l .phase ≡ 5 → DeletedTaken (among-ids s minus v) pool stack l r rows′ →
+        Takes (take-number s minus v before) r rows′ pool stack lits P M
+    number-deleted {r} {rows′} e q = record {
+      fit = q .fit;
+      keeps = keeps-on l (r .line) lits (q .counted) k;
+      taken =
+          ap (step (spelled (r .table) rows′ pool stack)) (reading-on l (r .line) lits (q .counted) P M) ∙ q .taken (take (l .count) lits) (set-of P M)
+          ∙ sym (at-ids s minus v before (omega arith) (λ z. omega (arith, e, z)) e);
+    }
+
+    pub number-misplaced : {r : ProofLine} → 3 ≤ l .phase → (l .phase ≡ 3 → ⊥) → (l .phase ≡ 5 → ⊥) → r ≡ noting 31 l →
+        Takes (take-number s minus v before) (record { table = t; line = r }) rows pool stack lits P M
+    number-misplaced h n m e = let q = elsewhere s minus v before h n m in rw e (line-on _ refl (sym q))
+
+    pub word-number : {w : LineWord} {r : Taken} {rows′ : List Row} {lits′ : List ℤ} {P′ M′ : List ℕ} → w ≡ Number minus v →
+        Takes (take-number s minus v before) r rows′ pool stack lits′ P′ M′ → Takes (take-word s w before) r rows′ pool stack lits′ P′ M′
+    unfolding take-word
+    word-number e q = rw e q
+
+  -- ---- another word
+
+  module _ {w : LineWord} {r : ProofLine} where
+    -- d stands behind the id alone
+    pub word-d : w ≡ Deletion → l .phase ≡ 1 → r ≡ in-phase 5 l → Takes (take-word s w before) (record { table = t; line = r }) rows pool stack lits P M
+    unfolding take-word
+    word-d d h e = let q = eq-eqb (l .phase) 1 h in rw (d, e, q) (line-on _ refl refl)
+
+    pub word-misplaced : w ≡ Deletion → (l .phase ≡ 1 → ⊥) → r ≡ noting 31 l →
+        Takes (take-word s w before) (record { table = t; line = r }) rows pool stack lits P M
+    unfolding take-word
+    word-misplaced d h e = let q = ne-eqb (l .phase) 1 h in rw (d, e, q) (line-on _ refl refl)
+
+    pub word-other : w ≡ Other → r ≡ noting 31 l → Takes (take-word s w before) (record { table = t; line = r }) rows pool stack lits P M
+    unfolding take-word
+    word-other d e = rw (d, e) (line-on _ refl refl)

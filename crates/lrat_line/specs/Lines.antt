@@ -11,7 +11,6 @@ use Rattle.rules.specs.Propagation.{also}
 use Rattle.rules.specs.Propagation as paper
 use Rattle.lit_sets.specs.Words.{set-of}
 use Rattle.table.specs.Spelled.{Row, spelled, Fit}
-use Rattle.table.specs.declared.Table.{Table}
 use Rattle.text_numbers.specs.Told.{with-sign}
 use Rattle.lrat.specs.Kept.{Keeps, read-with}
 use Rattle.lrat.specs.Machine.{Reading, Step, step, in-phase, take-literal, end-literals, among-hints}

@@ -123,8 +123,8 @@ returns-3 c =
     let h = c .before .before in
     let x = h .before .before .before in (
       reads (in-clause x)
-      ∙ scan-bad (scanned x .loop .inv) (more x) (false-is x (h .has .ensures) ∙ not-true (c .before .if2 .taken))
-      (λ z. ⊎-elim (λ w. absurd (w .taken (zero-bits _ z))) (λ w. true-is x (w .3 .ensures) ∙ w .4 .taken) (c .if3 .came)),
+          ∙ scan-bad (scanned x .loop .inv) (more x) (false-is x (h .has .ensures) ∙ not-true (c .before .if2 .taken))
+          (λ z. ⊎-elim (λ w. absurd (w .taken (zero-bits _ z))) (λ w. true-is x (w .3 .ensures) ∙ w .4 .taken) (c .if3 .came)),
       refl,
     )
 
@@ -134,10 +134,10 @@ loop-again c =
     let a = scanned x .loop .inv in
     let e = false-is x (c .before .has .ensures) in
     ⊎-elim
-        (λ w. rw (w .6, toZ-ofZ (l-fits x))
-        (scan-open a (more x) (bits-zero _ (w .1 .left)) (l-ranged x) (e ∙ not-true (w .0 .taken)) (true-is x (w .4 .ensures) ∙ w .5 .left)))
-        (λ w. rw (w .1) (scan-false a (more x) (e ∙ not-false (w .0 .left))))
-        (c .if2 .came)
+    (λ w. rw (w .6, toZ-ofZ (l-fits x))
+    (scan-open a (more x) (bits-zero _ (w .1 .left)) (l-ranged x) (e ∙ not-true (w .0 .taken)) (true-is x (w .4 .ensures) ∙ w .5 .left)))
+    (λ w. rw (w .1) (scan-false a (more x) (e ∙ not-false (w .0 .left))))
+    (c .if2 .came)
 
 insert-requires : tie.Need-insert-requires Inv-loop μ-loop
 insert-requires c κs =

@@ -1,5 +1,4 @@
 -- Each return is one law of Words, by the phase.
-use native.Mathlib.Omega.{arith}
 use borrow.Author.Needs.{needs}
 use Rattle.lrat_line.proofs.Words.{number-id, number-literal, number-hint, number-deleted, number-misplaced}
 use Rattle.lrat_line.proofs.take_number.Statement.{statement}
