@@ -7,7 +7,8 @@ returns : tie.Need-returns
 returns c =
     let x = c .before .before .before .before in
     let a = x .before .args in
-    literals-end (a .vars) (a .negative) (a .v) (a .l) (a .lits .now) (a .plus .now) (a .minus .now) (x .if1 .taken) (x .before .pre .1) (c .end-literals .ensures)
+    literals-end (a .vars) (a .negative) (a .v) (a .l) (a .lits .now) (a .plus .now) (a .minus .now) (x .if1 .taken) (x .before .pre .1)
+    (c .end-literals .ensures)
 
 returns-2 : tie.Need-returns-2
 returns-2 c =

@@ -118,6 +118,15 @@ module _ (x : tie.Else5 Inv-loop μ-loop) where
   opened-ranged : in-range 2048 opened ≡ true
   opened-ranged = x .before .before .loop .inv .kept not-zero .1
 
+returns : tie.Need-returns Inv-loop μ-loop
+returns c = let x = c .before .before in (ap (judge (F x)) (names-nobody (s x .pre) _ (located x (c .enum-told .given .1))), refl)
+
+returns-2 : tie.Need-returns-2 Inv-loop μ-loop
+returns-2 c =
+    let p = c .before in
+    let x = p .before in
+    (ap (judge (F (found x))) (names-gone (s (found x) .pre) _ (k x) (at x) (p .place-at .ensures) (c .if1 .taken)), refl)
+
 returns-3 : tie.Need-returns-3 Inv-loop μ-loop
 returns-3 c =
     let h = c .before .before in
@@ -138,6 +147,11 @@ loop-again c =
     (scan-open a (more x) (bits-zero _ (w .1 .left)) (l-ranged x) (e ∙ not-true (w .0 .taken)) (true-is x (w .4 .ensures) ∙ w .5 .left)))
     (λ w. rw (w .1) (scan-false a (more x) (e ∙ not-false (w .0 .left))))
     (c .if2 .came)
+
+returns-4 : tie.Need-returns-4 Inv-loop μ-loop
+returns-4 c =
+    let a = c .before in
+    (reads (a .before .before) ∙ scan-conflict (a .before .loop .inv) (ended a) (bits-zero _ (c .if5 .taken)), refl)
 
 insert-requires : tie.Need-insert-requires Inv-loop μ-loop
 insert-requires c κs =
@@ -162,11 +176,9 @@ read-hint-spec =
     (λ c κs. c .pre .rising)  -- find-requires
     (λ c. search needs)  -- enum-known-k
     (λ c. search needs)  -- enum-told
-    (λ c. let x = c .before .before in (ap (judge (F x)) (names-nobody (s x .pre) _ (located x (c .enum-told .given .1))), refl))  -- returns
+    returns
     (λ c κs. at c .0)  -- place-at-requires
-    (λ c. let p = c .before in
-    let x = p .before in
-    (ap (judge (F (found x))) (names-gone (s (found x) .pre) _ (k x) (at x) (p .place-at .ensures) (c .if1 .taken)), refl))  -- returns-2
+    returns-2
     (λ c κs. let x = c .before .before in (at x .0, s (found x) .pre .inside _ (at x .0)))  -- clause-of-requires
     (λ c. scan-start _ _)  -- loop-holds
     (λ c. search needs)  -- mul-l
@@ -177,7 +189,7 @@ read-hint-spec =
     (λ c. search needs)  -- add-i
     (λ c. search needs)  -- loop-less
     loop-again
-    (λ c. let a = c .before in (reads (a .before .before) ∙ scan-conflict (a .before .loop .inv) (ended a) (bits-zero _ (c .if5 .taken)), refl))  -- returns-4
+    returns-4
     (λ c κs. opened-ranged (c .before .before))  -- opposite-requires
     insert-requires
     returns-5)

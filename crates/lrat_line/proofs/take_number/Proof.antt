@@ -32,7 +32,8 @@ returns-4 : tie.Need-returns-4
 returns-4 c =
     let x = c .before .before .before .before in
     let s = start (x .before .before .before .before .before .before) in
-    number-hint (s .pre .0) _ _ (s .pre .1) (s .args .plus .now) (s .args .minus .now) (s .args .negative) (s .args .v) (x .if4 .taken) (c .among-hints .ensures)
+    number-hint (s .pre .0) _ _ (s .pre .1) (s .args .plus .now) (s .args .minus .now) (s .args .negative) (s .args .v) (x .if4 .taken)
+    (c .among-hints .ensures)
 
 returns-5 : tie.Need-returns-5
 returns-5 c =
