@@ -2,13 +2,15 @@
 // clauses go as their ids come; the least number of refusal that was noted decides at the line's end.
 ghost use mathlib.Core.Path.{_≡_};
 ghost use Prim.Native.Nat.{_≤_};
-ghost use Rattle.rules.specs.Propagation.{judge};
+ghost use Rattle.rules.specs.Terms.{everything};
+ghost use Rattle.rules.specs.Propagation.{among, judge};
 ghost use Rattle.lit_sets.specs.Words.{set-of};
 ghost use Rattle.table.specs.Spelled.{Fit, Readable, spelled};
 ghost use Rattle.judge_propagate.specs.Scope.{all-clauses, allowed-of};
 ghost use Rattle.lrat.specs.Machine as machine;
 ghost use Rattle.lrat.specs.Kept.{Keeps};
-ghost use Rattle.lrat_line.specs.Lines.{reading, LiteralTaken, LiteralsEnded, HintRead, HintTaken, DeletedTaken, Takes};
+ghost use Rattle.lrat_line.specs.Lines.{reading, LiteralTaken, LiteralsEnded, LineRead, literal-or-end};
+ghost use Rattle.lrat_line.specs.Lines.{HintRead, HintTaken, hint-or-end, DeletedTaken, Takes};
 use lrat::LineWord;
 use lrat::ProofLine;
 use table::Found;
@@ -90,6 +92,26 @@ fn end_literals(
     enter(l, 3)
 }
 
+// A number among the literals: 0 ends them.
+fn among_literals(
+    vars: u32,
+    l: ProofLine,
+    lits: &mut [i32],
+    plus: &mut [u64; 32],
+    minus: &mut [u64; 32],
+    negative: bool,
+    v: u64,
+) -> ProofLine
+    requires { ⌜ (vars ≤ 2048) × Keeps l (now lits) ⌝ }
+    ensures { λ r. ⌜ LineRead (literal-or-end vars negative v (reading l (now (lits .entry)) (now (plus .entry)) (now (minus .entry))))
+        r (now (lits .exit)) (now (plus .exit)) (now (minus .exit)) ⌝ }
+{
+    if v == 0 {
+        return end_literals(l, lits, plus, minus);
+    }
+    take_literal(vars, l, lits, negative, v)
+}
+
 // ---- hints
 
 // What a hint does: its clause is false, or forces its one open literal, whose opposite is false then; or it is a bad hint.
@@ -149,8 +171,8 @@ fn take_hint(
     minus: &mut [u64; 32],
 ) -> ProofLine
     requires { ⌜ Fit t (now rows) (now pool) (now stack) ⌝ }
-    ensures { λ r. ⌜ HintTaken (spelled t (now (rows .entry)) (now (pool .entry)) (now (stack .entry))) v l (now (plus .entry)) (now (minus .entry)) r
-        (now (plus .exit)) (now (minus .exit)) ⌝ }
+    ensures { λ r. ⌜ HintTaken (machine.take-hint (among (everything (spelled t (now (rows .entry)) (now (pool .entry)) (now (stack .entry))))) v)
+        l (now (plus .entry)) (now (minus .entry)) r (now (plus .exit)) (now (minus .exit)) ⌝ }
 {
     let mut r = l;
     if l.proof != 0 {
@@ -168,6 +190,31 @@ fn take_hint(
         Looked::Bad => r.proof = 2,
     }
     r
+}
+
+// A number among the hints: 0 ends them, and none is negative.
+fn among_hints(
+    rows: &[Row],
+    pool: &[i32],
+    stack: &[u32],
+    t: Table,
+    l: ProofLine,
+    plus: &mut [u64; 32],
+    minus: &mut [u64; 32],
+    negative: bool,
+    v: u64,
+) -> ProofLine
+    requires { ⌜ Fit t (now rows) (now pool) (now stack) ⌝ }
+    ensures { λ r. ⌜ HintTaken (hint-or-end (spelled t (now (rows .entry)) (now (pool .entry)) (now (stack .entry))) negative v)
+        l (now (plus .entry)) (now (minus .entry)) r (now (plus .exit)) (now (minus .exit)) ⌝ }
+{
+    if v == 0 {
+        return enter(l, 4);
+    }
+    if negative {
+        return note(l, 36);
+    }
+    take_hint(rows, pool, stack, t, l, v, plus, minus)
 }
 
 // ---- deleted ids
@@ -188,7 +235,8 @@ fn take_deleted(
     v: u64,
 ) -> Taken
     requires { ⌜ Fit t (now rows) (now pool) (now stack) ⌝ }
-    ensures { λ r. ⌜ DeletedTaken t (now (rows .entry)) (now (pool .entry)) (now (stack .entry)) v l r (now (rows .exit)) ⌝ }
+    ensures { λ r. ⌜ DeletedTaken (machine.take-deleted (spelled t (now (rows .entry)) (now (pool .entry)) (now (stack .entry))) v)
+        (now (pool .entry)) (now (stack .entry)) l r (now (rows .exit)) ⌝ }
 {
     if 2147483647 < v {
         return Taken {
@@ -215,6 +263,35 @@ fn take_deleted(
     }
 }
 
+// A number among the deleted ids: 0 ends them, and none is negative.
+fn among_ids(
+    rows: &mut [Row],
+    pool: &[i32],
+    stack: &[u32],
+    t: Table,
+    l: ProofLine,
+    negative: bool,
+    v: u64,
+) -> Taken
+    requires { ⌜ Fit t (now rows) (now pool) (now stack) ⌝ }
+    ensures { λ r. ⌜ DeletedTaken (machine.among-ids (spelled t (now (rows .entry)) (now (pool .entry)) (now (stack .entry))) negative v)
+        (now (pool .entry)) (now (stack .entry)) l r (now (rows .exit)) ⌝ }
+{
+    if v == 0 {
+        return Taken {
+            table: t,
+            line: enter(l, 6),
+        };
+    }
+    if negative {
+        return Taken {
+            table: t,
+            line: note(l, 31),
+        };
+    }
+    take_deleted(rows, pool, stack, t, l, v)
+}
+
 // ---- a word
 
 // A number, by the line's phase.
@@ -235,32 +312,17 @@ fn take_number(
         (reading l (now (lits .entry)) (now (plus .entry)) (now (minus .entry))))
         r (now (rows .exit)) (now (pool .entry)) (now (stack .entry)) (now (lits .exit)) (now (plus .exit)) (now (minus .exit)) ⌝ }
 {
+    if l.phase == 5 {
+        return among_ids(rows, pool, stack, t, l, negative, v);
+    }
     let mut line = l;
     if l.phase == 0 {
         line.phase = 1;
         line.id = id_said(negative, v);
     } else if l.phase < 3 {
-        if v == 0 {
-            line = end_literals(l, lits, plus, minus);
-        } else {
-            line = take_literal(t.vars, l, lits, negative, v);
-        }
+        line = among_literals(t.vars, l, lits, plus, minus, negative, v);
     } else if l.phase == 3 {
-        if v == 0 {
-            line = enter(l, 4);
-        } else if negative {
-            line = note(l, 36);
-        } else {
-            line = take_hint(rows, pool, stack, t, l, v, plus, minus);
-        }
-    } else if l.phase == 5 {
-        if v == 0 {
-            line = enter(l, 6);
-        } else if !negative {
-            return take_deleted(rows, pool, stack, t, l, v);
-        } else {
-            line = note(l, 31);
-        }
+        line = among_hints(rows, pool, stack, t, l, plus, minus, negative, v);
     } else {
         line = note(l, 31);
     }
