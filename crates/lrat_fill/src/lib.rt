@@ -1,15 +1,10 @@
 // The clauses of a text, added one by one to an empty working table.
-ghost use mathlib.Core.Path.{_≡_};
-ghost use Rattle.rules.specs.Terms.{State};
 ghost use Rattle.dimacs.specs.Reading.{read-text};
-ghost use Rattle.table.proofs.Empty.{empty};
-ghost use Rattle.lrat_fill.specs.Filling.{Lends, FillAsked, Fills, FillsFrom, room-code};
+ghost use Rattle.lrat_fill.specs.Filling.{FillAsked, Fills, Lends};
 use dimacs::TextAnswer;
 use dimacs::TextFault;
 use dimacs_frames::Cursor;
 use dimacs_frames::Yield;
-use rules::Answer;
-use rules::Fault;
 use table::Row;
 use table::Table;
 
@@ -20,51 +15,22 @@ pub enum FilledText {
     Working(Table),
 }
 
-// No clause is held, and at most `entries` may be.
-fn empty_table(vars: u32, entries: u32) -> Table
-    ensures { λ r. ⌜ r ≡ empty vars entries ⌝ }
-{
-    Table {
-        vars,
-        highest: 0,
-        entries,
-        count: 0,
-        gone: 0,
-        words: 0,
-        depth: 0,
-        top: 0,
-    }
-}
-
-// 12 or 13, or 0 where the clause was added.
-fn room_code(answer: Answer) -> u32
-    ensures { λ r. ⌜ r ≡ room-code answer ⌝ }
-{
-    if let Answer::Refused(fault) = answer {
-        if let Fault::NoEntry = fault {
-            return 12;
-        }
-        return 13;
-    }
-    0
-}
-
-// Adds the clauses of a text without fault, as its frames are handed out.
+// Adds the clauses of a text without fault to an empty table, as its frames are handed out.
 fn add_all(text: &[u8], rows: &mut [Row], pool: &mut [i32], stack: &[u32], t: Table) -> FilledText
     requires { ⌜ FillAsked (now text) t (now rows) (now pool) (now stack) ⌝ }
-    ensures { λ r. ⌜ FillsFrom (now (text .entry)) t r (now (rows .exit)) (now (pool .exit)) (now (stack .entry)) ⌝ }
+    ensures { λ r. ⌜ Fills (t .entries) (read-text (now (text .entry))) r (now (rows .exit)) (now (pool .entry)) (now (pool .exit)) (now (stack .entry)) ⌝ }
 {
     let mut frame = [0i32; 258];
     let mut cursor = Cursor { at: 0, id: 0 };
     let mut table = t;
     loop {
-        let told = dimacs_frames::next(text, cursor, &mut frame);
-        let Yield::Frame(n, behind) = told else {
+        let yielded = dimacs_frames::next(text, cursor, &mut frame);
+        let Yield::Frame(n, behind) = yielded else {
             return FilledText::Working(table);
         };
-        let id = behind.id as u32;
-        let added = step_changes::add(rows, pool, stack, table, id, &frame[2..n]);
-        let code = room_code(added.answer);
+        let added = step_changes::add(rows, pool, stack, table, behind.id as u32, &frame[2..n]);
+        let answer = added.answer;
+        let code = rules_codes::code(answer);
         if code != 0 {
             return FilledText::Full(code, t.vars);
         }
@@ -73,7 +39,7 @@ fn add_all(text: &[u8], rows: &mut [Row], pool: &mut [i32], stack: &[u32], t: Ta
     }
 }
 
-// Fills the tables with the clauses of a text of any bytes; `entries` of the rows may be held.
+// Fills lent tables with the clauses of a text of any bytes; at most `entries` may be held.
 pub fn fill(
     text: &[u8],
     rows: &mut [Row],
@@ -88,8 +54,17 @@ pub fn fill(
     match judged {
         TextAnswer::Faulty(f) => FilledText::Faulty(f),
         TextAnswer::Sound(vars, _) => {
-            let table = empty_table(vars, entries);
-            add_all(text, rows, pool, stack, table)
+            let empty = Table {
+                vars,
+                highest: 0,
+                entries,
+                count: 0,
+                gone: 0,
+                words: 0,
+                depth: 0,
+                top: 0,
+            };
+            add_all(text, rows, pool, stack, empty)
         }
     }
 }
