@@ -2,3 +2,4 @@
 pub mod Left
 pub mod Adding
 pub mod Turns
+pub mod Opening
