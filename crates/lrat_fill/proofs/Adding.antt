@@ -1,19 +1,18 @@
 -- Clauses of a text, added one by one: each asks for room alone, and what is left comes to what the definition says of the whole.
 use mathlib.Core.Path.{_≡_, refl, sym, ap, ap₂, _∙_}
-use mathlib.Core.Bool.{Bool, true, false, cond}
+use mathlib.Core.Bool.{Bool, true, false}
 use mathlib.Core.List.{List, [], _∷_, _++_}
 use Prim.Native.Nat.{ℕ, _+_, _≤_, _<_}
 use native.Mathlib.Omega.{arith}
-use lib.Dec.{eqb, ltb, leb}
+use lib.Dec.{ltb, leb}
 use lib.IntN.{ℤ}
 use lib.ListN.{length, length-append}
-use borrow.Author.Tests.{ltb-true, lt-ltb, eq-eqb, ne-eqb}
+use borrow.Author.Tests.{ltb-true, lt-ltb, ne-eqb}
 use Rattle.rules.specs.Lists.{all-pass}
 use Rattle.rules.specs.Terms.{is-clause, State, everything, room}
 use Rattle.rules.specs.Frames.{ADD, plain, place, next}
 use Rattle.rules.specs.Answers.{numbers, _then_, need, cleanly, free-entry, free-words, check}
 use Rattle.rules.specs.declared.Fault.the-variants.{NoEntry, NoWords}
-use Rattle.rules.specs.declared.Check.{Check}
 use Rattle.rules.specs.declared.Check.the-variants.{Passed}
 use Rattle.rules.proofs.Lists.{all-head, all-tail}
 use Rattle.rules.proofs.Checks.{clause-passes}

@@ -2,7 +2,6 @@
 use mathlib.Core.Path.{_≡_, refl, sym, ap, _∙_}
 use mathlib.Core.List.{List}
 use Prim.Native.Nat.{ℕ, _≤_}
-use native.Mathlib.Omega.{arith}
 use lib.IntN.{ℤ}
 use lib.ListN.{length}
 use Rattle.rules.specs.Frames.{ADD}
@@ -18,7 +17,7 @@ use Rattle.dimacs_frames.specs.Yields.{yields-into}
 use Rattle.dimacs_frames.specs.declared.Cursor.{Cursor}
 use Rattle.dimacs_frames.specs.declared.Yield.{Yield}
 use Rattle.dimacs_frames.specs.declared.Yield.the-variants.{Frame}
-use Rattle.lrat.specs.Checking.{ask-room, Filled, fill, opened-for}
+use Rattle.lrat.specs.Checking.{ask-room, fill, opened-for}
 use Rattle.lrat_fill.specs.Filling.{FillAsked, Fills}
 use Rattle.lrat_fill.specs.declared.FilledText.the-variants.{Full, Working}
 use Rattle.lrat_fill.proofs.Left.{lits-in}
@@ -63,7 +62,8 @@ module _ {text : List ℕ} {t : Table} {pool₀ : List ℤ} {stack : List ℕ} {
     told : numbers (r .answer) .0 ≡ ask-room s (lits-in n frame′) 0
     told = ap (λ (x : Answer). numbers x .0) (a .answered) ∙ offered-code offered
 
-    pub going-full : (code : ℕ) → code ≡ numbers (r .answer) .0 → (code ≡ 0 → ⊥) → Fills (t .entries) (read-text text) (Full code (t .vars)) rows′ pool₀ pool′ stack
+    pub going-full : (code : ℕ) → code ≡ numbers (r .answer) .0 → (code ≡ 0 → ⊥)
+        → Fills (t .entries) (read-text text) (Full code (t .vars)) rows′ pool₀ pool′ stack
     going-full code e some =
         let x = g .reads in
         rw x (record { kept = same ∙ g .kept; fills = (offered-full offered code (e ∙ told) some, g .vars) })

@@ -102,9 +102,12 @@ returns-2 c =
 
 loop-again : tie.Need-loop-again Inv-loop μ-loop
 loop-again c =
-    let b = c .before .before in
-    (going-on (l (k b) .loop .inv .0) (l (k b) .loop .frame) (words (k b)) (buffer b) (count (k b)) (behind (k b)) (frame-told (k b)) (added b .add .ensures)
-    (same-pool b) (sym (b .code .ensures) ∙ c .before .if1 .left), wide (k b), same-rows b)
+    let b = c .before .before in (
+      going-on (l (k b) .loop .inv .0) (l (k b) .loop .frame) (words (k b)) (buffer b) (count (k b)) (behind (k b)) (frame-told (k b)) (added b .add .ensures)
+          (same-pool b) (sym (b .code .ensures) ∙ c .before .if1 .left),
+      wide (k b),
+      same-rows b,
+    )
 
 pub add-all-spec : {M : Type 1} → statement M
 add-all-spec =
