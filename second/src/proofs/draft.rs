@@ -118,10 +118,27 @@ impl Draft {
             _ => random.between(100, MOST_VARIABLES as usize),
         };
         let mut draft = Draft::over(vars as i32, random);
+        if random.one_in(3) {
+            draft.repeat_a_rule(random);
+        }
         if random.one_in(2) {
             draft.delete_unneeded(random);
         }
         draft
+    }
+
+    /// Begins with a clause of the rules again, or with what follows from it: the same and more literals.
+    fn repeat_a_rule(&mut self, random: &mut Random) {
+        let place = random.below(self.rules.clauses.len());
+        let mut literals = self.rules.clauses[place].clone();
+        let most = random.below(4);
+        for literal in random.literals(self.rules.vars, most) {
+            if literals.iter().all(|word| word.abs() != literal.abs()) {
+                literals.push(literal);
+            }
+        }
+        random.shuffle(&mut literals);
+        self.add_first(literals, vec![place as i64 + 1]);
     }
 
     /// Gives the variables other names, up to V.

@@ -227,13 +227,13 @@ pub const CLASSES: [Class; 32] = [
     class(
         "entries",
         "12: entries filled by rules and steps, exactly and by one too many",
-        &[0, 12],
+        &[0, 12, 34, 38],
         room::entries,
     ),
     class(
         "words",
         "13: words filled by rules and steps, exactly and by one too many",
-        &[0, 13],
+        &[0, 12, 13, 34, 38],
         room::words,
     ),
     class(
@@ -257,44 +257,49 @@ pub const CLASSES: [Class; 32] = [
     class(
         "long-numbers",
         "numbers that wrap to the right ones in some bits",
-        &[0, 31, 32, 34, 37],
+        &[0, 31, 32, 34, 35, 37],
         faults::long_numbers,
     ),
     class(
         "long-lines",
         "hints, blanks and zeros by the thousand",
-        &[0],
+        &[0, 31, 35],
         faults::long_lines,
     ),
     class(
         "single-bytes",
         "every byte as a word, inside one, between two and first on a line",
-        &[0, 31],
+        &[0, 31, 32, 33, 34, 35, 36, 37, 38],
         bytes::single_bytes,
     ),
-    class("cut", "sound proofs cut anywhere", &[0, 31, 38], bytes::cut),
+    class(
+        "cut",
+        "sound proofs cut anywhere",
+        &[0, 31, 37, 38],
+        bytes::cut,
+    ),
     class(
         "mutated-bytes",
         "sound proofs with bytes changed, put in, taken out, doubled, swapped",
-        &[0, 31],
+        &[0, 31, 32, 33, 34, 35, 36, 37],
         bytes::mutated_bytes,
     ),
     class(
         "mutated-words",
         "sound proofs with words taken out, doubled, swapped, put in",
-        &[0, 31],
+        &[0, 31, 32, 33, 34, 35, 36, 37, 38],
         bytes::mutated_words,
     ),
     class(
         "mutated-lines",
         "sound proofs with lines taken out, doubled, swapped, put in, joined",
-        &[0, 31],
+        &[0, 31, 34, 35, 37, 38],
         bytes::mutated_lines,
     ),
     class(
         "soup",
         "words of lines in any order",
-        &[31, 38],
+        &[31, 32, 33, 34, 36, 37, 38],
         bytes::soup,
     ),
 ];

@@ -65,13 +65,22 @@ pub fn refute(rules: &Rules, random: &mut Random) -> Option<Vec<Addition>> {
     Some(additions)
 }
 
-/// Few variables, and clauses drawn until no model is left; some take none away.
+/// Few variables, and clauses drawn until no model is left; some take none away. Most rules have no clause of one
+/// literal, since propagation alone would soon refute them.
 pub fn without_model(random: &mut Random) -> Rules {
-    let vars = random.between(1, 6) as i32;
+    let vars = match random.below(12) {
+        0 => 1,
+        _ => random.between(3, 8) as i32,
+    };
+    let has_units = vars == 1 || random.one_in(4);
     let mut models: Vec<u32> = (0..1 << vars).collect();
     let mut clauses = Vec::new();
     while !models.is_empty() {
-        let length = random.between(1, 3);
+        let length = match random.below(16) {
+            0 if has_units => 1,
+            0..=4 => 2,
+            _ => 3,
+        };
         let clause = random.literals(vars, length);
         let before = models.len();
         models.retain(|model| {
