@@ -1,5 +1,5 @@
-//! The generated proofs: every number in every class that can have it, every pair of faults in one line, and the proof to
-//! time a checker with.
+//! The generated proofs: every number in every class that can have it, every pair of faults in one
+//! line, and the proof to time a checker with.
 
 use second::lrat::{check, Refusal};
 use second::proofs::plant::{all_pairs, planted};
@@ -170,10 +170,13 @@ fn a_large_proof_is_sound() {
     );
 }
 
-/// A checker with one rule changed.
-struct Deviant(fn((u32, u64)) -> (u32, u64));
+/// Changes code and detail.
+type Change = fn((u32, u64)) -> (u32, u64);
 
-impl ChecksProofs for Deviant {
+/// The checker with its answers changed.
+struct Changed(Change);
+
+impl ChecksProofs for Changed {
     fn check(&mut self, entries: usize, words: usize, rules: &[u8], proof: &[u8]) -> (u64, u64) {
         let (code, detail) = (self.0)(check(entries, words, rules, proof));
         (code.into(), detail)
@@ -182,27 +185,19 @@ impl ChecksProofs for Deviant {
 
 #[test]
 fn another_checker_is_compared() {
-    let histogram = run(&mut Deviant(|answer| answer), 0..3).expect("no difference");
+    let histogram = run(&mut Changed(|answer| answer), 0..3).expect("no difference");
     assert_eq!(histogram.pairs(), 3 * CLASSES.len() as u64);
-    let deviants: [fn((u32, u64)) -> (u32, u64); 3] = [
-        |(code, detail)| {
-            if code == 36 {
-                (37, detail)
-            } else {
-                (code, detail)
-            }
-        },
-        |(code, detail)| {
-            if code == 38 {
-                (38, detail + 1)
-            } else {
-                (code, detail)
-            }
-        },
-        |(code, detail)| if code == 1 { (12, 0) } else { (code, detail) },
-    ];
-    for deviant in deviants {
-        let found = run(&mut Deviant(deviant), 0..40).expect_err("a difference");
-        assert!(found.to_string().contains("\nexpected "), "{found}");
-    }
+    let told = |change: Change| {
+        let found = run(&mut Changed(change), 0..1).expect_err("a difference");
+        found.to_string()
+    };
+    assert_eq!(
+        told(|_| (37, 4)),
+        "class    plain, seed 0\nexpected accepted\nfound    37 (a failed proof), line 4"
+    );
+    let late = told(|(code, detail)| (code, if code == 21 { detail + 1 } else { detail }));
+    assert!(
+        late.contains("\nexpected 21 (the problem line is missing) at byte "),
+        "{late}"
+    );
 }

@@ -13,27 +13,25 @@ fn any_sound(random: &mut Random) -> (Draft, Vec<u8>) {
     (draft, proof)
 }
 
-/// Every byte as a word, inside one, between two and first on a line.
+/// Every byte as a word, inside one, in place of a blank and first on a line.
 pub fn single_bytes(seed: u64, random: &mut Random) -> Pair {
     let draft = Draft::any(random);
     let mut proof = lay(&lines_of(&draft), &PLAIN, random);
     let byte = seed as u8;
-    let places: Vec<usize> = (0..proof.len()).collect();
-    let (wanted, put): (fn(u8) -> bool, Vec<u8>) = match seed / 256 % 4 {
-        0 => (|byte| byte == b' ', vec![b' ', byte]),
-        1 => (|byte| byte.is_ascii_digit(), vec![byte]),
-        2 => (|byte| byte == b' ', vec![byte]),
-        _ => (|byte| byte == b'\n', vec![b'\n', byte]),
+    let way = seed / 256 % 4;
+    let is_wanted = |byte: u8| match way {
+        0 | 2 => byte == b' ',
+        1 => byte.is_ascii_digit(),
+        _ => byte == b'\n',
     };
-    let places: Vec<usize> = places
-        .into_iter()
-        .filter(|&place| wanted(proof[place]))
-        .collect();
-    match (random.pick(&places), seed / 256 % 4) {
-        // It takes the place of the blank.
-        (Some(&place), 2) => proof[place] = byte,
-        (Some(&place), _) => drop(proof.splice(place..place, put)),
-        (None, _) => proof.insert(0, byte),
+    let mut places: Vec<usize> = (0..proof.len()).collect();
+    places.retain(|&place| is_wanted(proof[place]));
+    let place = random.pick(&places).copied().unwrap_or_default();
+    match way {
+        0 => drop(proof.splice(place..place, [b' ', byte])),
+        1 => proof.insert(place, byte),
+        2 => proof[place] = byte,
+        _ => proof.insert(place + 1, byte),
     }
     Pair::with_proof(&draft.rules, proof, random)
 }

@@ -149,14 +149,10 @@ impl Draft {
             *word = if *word < 0 { -name } else { name };
         };
         self.rules.vars = vars;
-        self.rules
-            .clauses
-            .iter_mut()
-            .flatten()
-            .for_each(|word| rename(word));
+        self.rules.clauses.iter_mut().flatten().for_each(&rename);
         for step in &mut self.steps {
             if let Step::Add(addition) = step {
-                addition.literals.iter_mut().for_each(|word| rename(word));
+                addition.literals.iter_mut().for_each(&rename);
             }
         }
     }

@@ -227,19 +227,19 @@ pub const CLASSES: [Class; 32] = [
     class(
         "entries",
         "12: entries filled by rules and steps, exactly and by one too many",
-        &[0, 12, 34, 38],
+        &[0, 12, 29, 34, 38],
         room::entries,
     ),
     class(
         "words",
         "13: words filled by rules and steps, exactly and by one too many",
-        &[0, 12, 13, 34, 38],
+        &[0, 12, 13, 29, 34, 38],
         room::words,
     ),
     class(
         "small-tables",
         "tables just large enough or too small by few, and sizes that nobody may lend",
-        &[0, 1, 12, 13],
+        &[0, 1, 12, 13, 21, 22, 23, 24, 25, 26, 27, 28, 29, 31],
         room::small_tables,
     ),
     class(

@@ -68,7 +68,8 @@ fn can_stand(first: Refusal, second: Refusal) -> bool {
     }
 }
 
-/// A pair of texts in which one line has these faults, each behind the one before it, and nothing else is wrong up to it.
+/// A pair of texts in which one line has these faults, each behind the one before it, and nothing else
+/// is wrong up to it.
 pub fn planted(kinds: &[Refusal], random: &mut Random) -> Pair {
     let (draft, place) = host_of(kinds, random);
     let line = faulty_line(&draft, place, kinds, random);
@@ -103,7 +104,7 @@ fn host_of(kinds: &[Refusal], random: &mut Random) -> (Draft, usize) {
         draft.spread_ids(random);
     }
     let deletes = kinds.contains(&Refusal::NotHeld);
-    if deletes || kinds == [Refusal::Malformed] && random.one_in(3) {
+    if deletes || kinds == [Refusal::Malformed] && random.one_in(2) {
         let place = draft.any_place(random);
         let step = any_deletion(&draft.moment(place), random);
         draft.steps.insert(place, step);
@@ -137,12 +138,12 @@ impl Planter<'_> {
     fn plant_all(&mut self, kinds: &[Refusal]) {
         let kinds = kinds.iter().copied();
         let placed: Vec<Refusal> = kinds.filter(|&kind| !zones(kind).is_empty()).collect();
-        match placed.as_slice() {
-            &[kind] => {
+        match *placed.as_slice() {
+            [kind] => {
                 let zone = zones(kind)[self.random.below(zones(kind).len())];
                 self.plant(kind, zone, usize::MAX);
             }
-            &[first, second] => {
+            [first, second] => {
                 let both = zones_of(first, second);
                 let [one, other] = both[self.random.below(both.len())];
                 // The one behind goes in first, so that it knows its place.
@@ -158,6 +159,10 @@ impl Planter<'_> {
     fn plant(&mut self, kind: Refusal, zone: Zone, most: usize) -> usize {
         match zone {
             Zone::Id => self.line.id = self.any_id(kind),
+            Zone::Middle if self.deletes && self.random.one_in(2) => {
+                let others = ["D", "dd", "d0", "-d", "del", "d1"];
+                self.line.middle = vec![word(others[self.random.below(others.len())])];
+            }
             Zone::Middle => {
                 let words = self.any_in_middle(kind);
                 // The 0 behind the literals stays last; d is a word like others.
@@ -216,7 +221,7 @@ impl Planter<'_> {
         let twice = self.line.ids.first().cloned();
         match (kind, self.random.below(5)) {
             (Refusal::Malformed, 0) => word(0),
-            (Refusal::Malformed, 1) if self.deletes => word(-held),
+            (Refusal::Malformed, 1 | 2) if self.deletes => word(-held),
             (Refusal::Malformed, _) => any_no_number(self.random),
             (Refusal::NegativeHint, 0) => [b"-", &self.any_wrapping(held)[..]].concat(),
             (Refusal::NegativeHint, 1) => word(-self.moment.not_held(self.random)),

@@ -3,9 +3,11 @@
 use super::draft::{Draft, Moment, Room, Step};
 use super::plant::planted;
 use super::Pair;
+use crate::dimacs::Kind;
 use crate::lrat::Refusal;
 use crate::random::Random;
 use crate::terms::{MOST_ENTRIES, MOST_LITERALS, MOST_VARIABLES, MOST_WORDS};
+use crate::texts::plant::planted as planted_text;
 use crate::texts::Rules;
 
 /// The tables of the program.
@@ -99,7 +101,12 @@ fn rules_alone(kind: Refusal, random: &mut Random) -> Pair {
         0 => Vec::new(),
         _ => Draft::any(random).steps,
     };
-    Pair::of(&Draft { rules, steps }, random)
+    let mut pair = Pair::of(&Draft { rules, steps }, random);
+    if random.one_in(4) {
+        // One clause more than declared: the text's fault comes before its room.
+        pair.rules.extend(b"\n0");
+    }
+    pair
 }
 
 fn of_kind(kind: Refusal, seed: u64, random: &mut Random) -> Pair {
@@ -118,6 +125,10 @@ pub fn words(seed: u64, random: &mut Random) -> Pair {
     of_kind(Refusal::Words, seed, random)
 }
 
+fn any_kind(random: &mut Random) -> Kind {
+    Kind::ALL[random.below(Kind::ALL.len())]
+}
+
 /// Small tables: just large enough, or too small by few; and sizes that nobody may lend.
 pub fn small_tables(_: u64, random: &mut Random) -> Pair {
     let draft = Draft::any(random);
@@ -130,6 +141,11 @@ pub fn small_tables(_: u64, random: &mut Random) -> Pair {
         6 => lent.entries = PROGRAM.entries + random.between(1, 3),
         _ => lent.words = PROGRAM.words + random.between(1, 3),
     }
-    let pair = Pair::of(&draft, random);
+    let mut pair = Pair::of(&draft, random);
+    match random.below(6) {
+        0 => pair.rules = planted_text(&[any_kind(random)], random),
+        1 => pair.proof = b"\n".to_vec(),
+        _ => {}
+    }
     Pair { lent, ..pair }
 }
