@@ -51,72 +51,34 @@ fn an_end_without_an_empty_clause_is_38_with_the_number_of_lines() {
     assert_eq!(said("5 d 0\n5 d 0\n5 d 0\n"), (38, 3));
 }
 
+/// The same for lines that are given with / between them.
+fn each_says(code: u32, lines: &str) {
+    all_say(code, &lines.split('/').collect::<Vec<&str>>());
+}
+
 #[test]
 fn what_is_no_line_of_either_kind_is_31() {
-    all_say(
+    each_says(31, "/ /\t\r/\r/c/c a comment/c 6 0 1 0/d/d 1 0/x");
+}
+
+#[test]
+fn an_addition_has_its_two_0_and_ends_with_the_second() {
+    each_says(31, "6/6 0/6 1/6 1 0/6 1 0 1/6 1 0 1 2/6 0 1/6 1 2 3");
+    each_says(
         31,
-        &[
-            "",
-            " ",
-            "\t\r",
-            "\r",
-            "c",
-            "c a comment",
-            "c 6 0 1 0",
-            "d",
-            "d 1 0",
-            "x",
-        ],
+        "6 1 0 1 2 0 0/6 1 0 1 2 0 7/6 1 0 1 2 0 x/6 0 0 0/6 1 0 1 0 2 0",
     );
-    all_say(
+}
+
+#[test]
+fn a_deletion_has_d_for_its_second_word_and_ends_with_its_only_0() {
+    each_says(
         31,
-        &[
-            "6",
-            "6 0",
-            "6 1",
-            "6 1 0",
-            "6 1 0 1",
-            "6 1 0 1 2",
-            "6 0 1",
-            "6 1 2 3",
-        ],
+        "5 d/5 d 1/5 d 1 0 2 0/5 d 1 0 0/5 d 0 0/5 d 0 1/5 d x 0/5 d d 0",
     );
-    all_say(
+    each_says(
         31,
-        &[
-            "6 1 0 1 2 0 0",
-            "6 1 0 1 2 0 7",
-            "6 1 0 1 2 0 x",
-            "6 0 0 0",
-            "6 1 0 1 0 2 0",
-        ],
-    );
-    all_say(
-        31,
-        &[
-            "5 d",
-            "5 d 1",
-            "5 d 1 0 2 0",
-            "5 d 1 0 0",
-            "5 d 0 0",
-            "5 d 0 1",
-            "5 d x 0",
-            "5 d d 0",
-        ],
-    );
-    all_say(
-        31,
-        &[
-            "5 D 1 0",
-            "5 dd 1 0",
-            "5 d1 0",
-            "5d 1 0",
-            "5 -d 1 0",
-            "5 1 d 0",
-            "5 1 d 2 0",
-            "x d 1 0",
-            "+5 d 1 0",
-        ],
+        "5 D 1 0/5 dd 1 0/5 d1 0/5d 1 0/5 -d 1 0/5 1 d 0/5 1 d 2 0/x d 1 0/+5 d 1 0",
     );
 }
 

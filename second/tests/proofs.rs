@@ -107,21 +107,33 @@ fn of_two_faults_in_one_line_the_lists_order_decides() {
     }
 }
 
-/// The faults of an addition, or of a deletion, in every order that a line can have them in.
+/// The faults that stand in the words of an addition.
+const IN_WORDS: [Refusal; 6] = [
+    Refusal::Malformed,
+    Refusal::PastCount,
+    Refusal::AgainstTerms,
+    Refusal::IdNotAbove,
+    Refusal::NegativeHint,
+    Refusal::Unproved,
+];
+
+/// Those that can stand before each other.
+const BOTH_ORDERS: [[Refusal; 2]; 7] = [
+    [Refusal::Malformed, Refusal::PastCount],
+    [Refusal::Malformed, Refusal::AgainstTerms],
+    [Refusal::Malformed, Refusal::NotHeld],
+    [Refusal::Malformed, Refusal::NegativeHint],
+    [Refusal::Malformed, Refusal::Unproved],
+    [Refusal::PastCount, Refusal::AgainstTerms],
+    [Refusal::NegativeHint, Refusal::Unproved],
+];
+
 #[test]
 fn every_pair_that_can_be_is_planted() {
     let pairs = all_pairs();
     let stands = |one, other| pairs.contains(&[one, other]);
-    let in_words = [
-        Refusal::Malformed,
-        Refusal::PastCount,
-        Refusal::AgainstTerms,
-        Refusal::IdNotAbove,
-        Refusal::NegativeHint,
-        Refusal::Unproved,
-    ];
-    for one in in_words {
-        for other in in_words.into_iter().filter(|&other| other > one) {
+    for one in IN_WORDS {
+        for other in IN_WORDS.into_iter().filter(|&other| other > one) {
             assert!(
                 stands(one, other) || stands(other, one),
                 "{one:?} {other:?}"
@@ -131,16 +143,7 @@ fn every_pair_that_can_be_is_planted() {
             assert!(stands(one.min(room), one.max(room)), "{one:?}");
         }
     }
-    let both_orders = [
-        [Refusal::Malformed, Refusal::PastCount],
-        [Refusal::Malformed, Refusal::AgainstTerms],
-        [Refusal::Malformed, Refusal::NotHeld],
-        [Refusal::Malformed, Refusal::NegativeHint],
-        [Refusal::Malformed, Refusal::Unproved],
-        [Refusal::PastCount, Refusal::AgainstTerms],
-        [Refusal::NegativeHint, Refusal::Unproved],
-    ];
-    for [one, other] in both_orders {
+    for [one, other] in BOTH_ORDERS {
         assert!(
             stands(one, other) && stands(other, one),
             "{one:?} {other:?}"

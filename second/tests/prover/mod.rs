@@ -623,45 +623,36 @@ impl Run {
         if hint < 0 {
             return Err(36);
         }
-        let own: Clause = addition.literals.iter().copied().collect();
-        let clause = match self.held.get(&hint) {
-            None if self.is(Way::GoneHintsStay) => self.gone.get(&hint),
-            None if self.is(Way::OwnIdIsAHint) && hint == addition.id => Some(&own),
-            held => held,
+        let skipped = |way| match self.is(way) || self.is(Way::HintsInAnyOrder) {
+            true => Ok(false),
+            false => Err(37),
         };
-        let any_order = self.is(Way::HintsInAnyOrder);
-        let Some(clause) = clause else {
+        let Some(clause) = self.find(hint, addition) else {
             return self
                 .refuse_unless(Way::UnheldHintIsSkipped, 37)
                 .map(|()| false);
         };
         if !clause.is_disjoint(truths) {
-            let skips = if any_order {
-                Way::HintsInAnyOrder
-            } else {
-                Way::TrueHintIsSkipped
-            };
-            return self.refuse_unless(skips, 37).map(|()| false);
+            return skipped(Way::TrueHintIsSkipped);
         }
-        let open: Vec<i128> = clause
-            .iter()
-            .copied()
-            .filter(|literal| !truths.contains(&-literal))
-            .collect();
-        match open.as_slice() {
-            [] => Ok(true),
-            [literal] => {
-                truths.insert(*literal);
+        let mut open = clause.iter().filter(|&literal| !truths.contains(&-literal));
+        match (open.next(), open.next()) {
+            (None, _) => Ok(true),
+            (Some(&literal), None) => {
+                truths.insert(literal);
                 Ok(false)
             }
-            _ => {
-                let skips = if any_order {
-                    Way::HintsInAnyOrder
-                } else {
-                    Way::OpenHintIsSkipped
-                };
-                self.refuse_unless(skips, 37).map(|()| false)
+            _ => skipped(Way::OpenHintIsSkipped),
+        }
+    }
+
+    fn find(&self, id: i128, addition: &Addition) -> Option<Clause> {
+        match self.held.get(&id) {
+            None if self.is(Way::GoneHintsStay) => self.gone.get(&id).cloned(),
+            None if self.is(Way::OwnIdIsAHint) && id == addition.id => {
+                Some(addition.literals.iter().copied().collect())
             }
+            held => held.cloned(),
         }
     }
 }
