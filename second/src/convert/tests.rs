@@ -314,3 +314,28 @@ fn pigeons_have_no_holes() {
     let lrat = to_lrat(&rules, drat, Format::Drat).expect("a proof");
     assert!(lrat.lines().count() > 8, "{lrat}");
 }
+
+// ---- real ones
+
+/// What the solvers wrote for two chains of exclusive ors, and the proofs that are kept of it.
+#[test]
+fn kept_proofs_of_solvers_come_to_what_is_kept() {
+    let rules = include_str!("../../../examples/lrat/parity-8.cnf");
+    let cadical = include_str!("../../../examples/lrat/parity-8.cadical.lrat");
+    let text = include_bytes!("../../../examples/lrat/parity-8.cadical.drat");
+    assert_eq!(
+        to_lrat(rules, text, Format::of(text)).as_deref(),
+        Ok(cadical)
+    );
+    let binary = include_bytes!("../../../examples/lrat/parity-8.cadical-binary.drat");
+    assert_eq!(
+        to_lrat(rules, binary, Format::of(binary)).as_deref(),
+        Ok(cadical)
+    );
+    let cryptominisat = include_str!("../../../examples/lrat/parity-8.cryptominisat.lrat");
+    let frat = include_bytes!("../../../examples/lrat/parity-8.cryptominisat.frat");
+    assert_eq!(
+        to_lrat(rules, frat, Format::of(frat)).as_deref(),
+        Ok(cryptominisat)
+    );
+}
