@@ -1,5 +1,5 @@
-//! FRAT: steps with ids. o repeats a rule, a adds a clause, d deletes one and f tells one that is
-//! left; behind an a may stand l and the ids of what the clause follows from.
+//! FRAT: steps with ids. o repeats a rule, a adds a clause, d deletes one, r gives clauses other ids
+//! and f tells one that is left; behind an a may stand l and the ids of what the clause follows from.
 
 use super::proof::{Proof, Step};
 use super::reader::{Fault, Reader};
@@ -15,6 +15,7 @@ pub fn read(proof: Proof, mut reader: Reader<'_>) -> Result<Proof, Fault> {
             Some('o') => reading.repeat(&mut reader)?,
             Some('a') => reading.add(&mut reader)?,
             Some('d') => reading.delete(&mut reader)?,
+            Some('r') => reading.renumber(&mut reader)?,
             Some('f') => {
                 reader.take_id()?;
                 reader.take_numbers()?;
@@ -67,9 +68,7 @@ impl Reading {
                 let named = u64::try_from(hint)
                     .ok()
                     .and_then(|hint| self.of_id.get(&hint));
-                hints.push(
-                    *named.ok_or_else(|| reader.fault(format!("hint {hint} is no id so far")))?,
-                );
+                hints.push(*named.ok_or_else(|| reader.fault(format!("{hint} is no id so far")))?);
             }
         }
         let added = self.proof.add(literals, reader.place(), hints);
@@ -80,10 +79,24 @@ impl Reading {
     fn delete(&mut self, reader: &mut Reader<'_>) -> Result<(), Fault> {
         let (id, _) = self.take_clause(reader)?;
         let deleted = self.of_id.remove(&id);
-        let deleted = deleted.ok_or_else(|| {
-            reader.fault(format!("{id}, which is to be deleted, is no id so far"))
-        })?;
+        let deleted = deleted.ok_or_else(|| reader.fault(format!("{id} is no id so far")))?;
         self.proof.steps.push(Step::Delete(deleted));
+        Ok(())
+    }
+
+    /// r: pairs of an id so far and the one that takes its place, all at once.
+    fn renumber(&mut self, reader: &mut Reader<'_>) -> Result<(), Fault> {
+        let mut moved = Vec::new();
+        loop {
+            let from = reader.take_id()?;
+            if from == 0 {
+                break;
+            }
+            let clause = self.of_id.remove(&from);
+            let clause = clause.ok_or_else(|| reader.fault(format!("{from} is no id so far")))?;
+            moved.push((reader.take_id()?, clause));
+        }
+        self.of_id.extend(moved);
         Ok(())
     }
 

@@ -279,6 +279,20 @@ fn frat_may_be_binary() {
 }
 
 #[test]
+fn frat_may_give_clauses_other_ids() {
+    let rules = "o 1 1 2 0\no 2 -1 2 0\no 3 3 0\n";
+    let rest = "a 4 2 0 l 3 1 0\na 9 0\n";
+    // 2 and 3 change places, and 3 comes to name (-1 2)
+    let lrat = from_frat(format!("{rules}r 2 3 3 2 0\n{rest}"));
+    assert_eq!(
+        lrat.as_deref(),
+        Ok("5 d 4 0\n6 2 0 2 1 0\n6 d 1 2 0\n7 0 6 3 5 0\n")
+    );
+    let told = from_frat(format!("{rules}r 7 3 0\n")).expect_err("no 7");
+    assert_eq!(told, "the proof: line 4: 7 is no id so far");
+}
+
+#[test]
 fn faults_of_frat_are_told_by_line() {
     let told = |proof: &str| from_frat(proof).expect_err(proof);
     assert!(told("o 1 1 2 0\no 2 1 2 0\n").starts_with("the proof: line 2: the clause is no rule"));
@@ -287,13 +301,10 @@ fn faults_of_frat_are_told_by_line() {
         told("1 2 0\n"),
         "the proof: line 1: a step begins with a letter"
     );
-    assert_eq!(
-        told("d 1 2 0\n"),
-        "the proof: line 1: 1, which is to be deleted, is no id so far"
-    );
+    assert_eq!(told("d 1 2 0\n"), "the proof: line 1: 1 is no id so far");
     assert_eq!(
         told("a 6 2 0 l 1 0\n"),
-        "the proof: line 1: hint 1 is no id so far"
+        "the proof: line 1: 1 is no id so far"
     );
     assert_eq!(
         told("a -6 2 0\n"),
