@@ -4,6 +4,7 @@ pub mod answer;
 pub mod assignment;
 pub mod checker;
 pub mod compare;
+pub mod convert;
 pub mod dimacs;
 pub mod frame;
 pub mod frames;
