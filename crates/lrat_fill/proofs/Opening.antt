@@ -17,7 +17,7 @@ use Rattle.lrat_fill.specs.declared.FilledText.the-variants.{Faulty}
 
 pub faulty-fills : (entries : ℕ) (rows : List Row) (pool : List ℤ) (stack : List ℕ) {f : TextFault} (r : Read Cnf) → TextFaulty f ≡ judged-text r
     → Fills entries r (Faulty f) rows pool pool stack
-faulty-fills entries rows pool stack {f} (faulty g) e = let same : f ≡ g = cc in ap Faulty same
+faulty-fills entries rows pool stack {f} (faulty g) e = let same : f ≡ g = cc in (ap Faulty same, refl)
 faulty-fills entries rows pool stack (sound x) e = let z : _≡_ {A = ℕ} 0 1 = cc in absurd (omega arith)
 
 sound-told : {vars n : ℕ} (r : Read Cnf) → Sound vars n ≡ judged-text r → (x : Cnf) × (r ≡ sound x) × (vars ≡ x .vars)

@@ -41,7 +41,7 @@ pub record FillsSound (entries : ℕ) (x : Cnf) (r : FilledText) (rows′ : List
   pub kept : length pool′ ≡ length pool
   pub fills : FillsAs r (x .vars) rows′ pool′ stack (fill (opened-for entries (length pool) x) 1 (x .clauses))
 
--- a text of any bytes
+-- a text of any bytes; one with a fault leaves every word of the pool
 abbrev pub Fills : ℕ → Read Cnf → FilledText → List Row → List ℤ → List ℤ → List ℕ → Type 0
-Fills entries (faulty f) r rows′ pool pool′ stack = r ≡ Faulty f
+Fills entries (faulty f) r rows′ pool pool′ stack = (r ≡ Faulty f) × (pool′ ≡ pool)
 Fills entries (sound x) r rows′ pool pool′ stack = FillsSound entries x r rows′ pool pool′ stack
