@@ -131,7 +131,7 @@ fn print_text(text: &[u8]) {
 
 fn main() {
     let mut buf = text_input::text_buffer();
-    let input = text_input::read_whole(&mut buf);
+    let input = text_input::read_whole(0, &mut buf);
     match input {
         Input::Whole(n) => print_text(&buf[..n]),
         Input::Larger => say(
