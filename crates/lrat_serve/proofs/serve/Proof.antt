@@ -1,99 +1,78 @@
+-- `lrat_serve::serve` meets its contract: each outcome of filling the tables is one law of Both.
+use mathlib.Core.Path.{_≡_, refl, subst}
+use mathlib.Core.List.{List, []}
+use Prim.Native.Nat.{ℕ}
+use lib.IntN.{ℤ}
+use lib.ListN.{length}
 use borrow.Author.Needs.{needs}
+use Rattle.table.specs.Spelled.{Row}
+use Rattle.dimacs.specs.Reading.{read-text}
+use Rattle.lrat_fill.specs.Filling.{Fills}
+use Rattle.lrat_fill.specs.declared.FilledText.{FilledText}
+use Rattle.lrat_serve.proofs.Both.{faulty-serves, full-serves, working-fits, working-serves}
 use Rattle.lrat_serve.proofs.serve.Statement.{statement}
 use Rattle.lrat_serve.proofs.serve.Tie as tie
-use Rattle.lrat_serve.proofs.serve.Reads as reads
-use Rattle.lrat_serve.proofs.serve.Lts as lts
-use Rattle.lrat_fill.proofs.fill.Reads as fill-reads
-use Rattle.lrat_serve.proofs.check.Reads as check-reads
-use Rattle.lrat_serve.proofs.vacant_pool.Reads as vacant-pool-reads
-use Rattle.lrat_serve.proofs.vacant_rows.Reads as vacant-rows-reads
-use Rattle.lrat_serve.proofs.vacant_stack.Reads as vacant-stack-reads
 
--- src/lib.rt:168:20
-vacant-rows-requires : tie.Need-vacant-rows-requires
-vacant-rows-requires c κs = search needs
+-- the tables are filled
+module _ (x : tie.After-fill) where
+  abbrev rules : List ℕ
+  rules = x .before .before .before .before .before .before .before .before .args .rules .now
 
--- src/lib.rt:169:20
-vacant-pool-requires : tie.Need-vacant-pool-requires
-vacant-pool-requires c κs = search needs
+  abbrev rows : List Row
+  rows = x .fill .last .1 .0
 
--- src/lib.rt:170:17
-vacant-stack-requires : tie.Need-vacant-stack-requires
-vacant-stack-requires c κs = search needs
+  abbrev vacant : List ℤ
+  vacant = x .before .before .before .before .before .vacant-pool .result
 
--- src/lib.rt:171:41
-slice-aggregate-fill : tie.Need-slice-aggregate-fill
-slice-aggregate-fill c = search needs
+  abbrev pool : List ℤ
+  pool = x .fill .last .1 .1 .0
 
--- src/lib.rt:171:52
-slice-aggregate-fill-2 : tie.Need-slice-aggregate-fill-2
-slice-aggregate-fill-2 c = search needs
+  abbrev stack : List ℕ
+  stack = x .before .before .before .before .vacant-stack .result
 
--- src/lib.rt:171:63
-slice-aggregate-fill-3 : tie.Need-slice-aggregate-fill-3
-slice-aggregate-fill-3 c = search needs
+  long : length vacant ≡ 8192
+  long = x .before .before .before .before .before .vacant-pool .ensures
 
--- src/lib.rt:171:9
-fill-requires : tie.Need-fill-requires
-fill-requires c κs = search needs
+  fills : {q : FilledText} → x .fill .result ≡ q → Fills 1024 (read-text rules) q rows vacant pool stack
+  fills e = subst (λ (q : FilledText). Fills 1024 (read-text rules) q rows vacant pool stack) e (x .fill .ensures)
 
--- src/lib.rt:173:28
-enum-known-filled : tie.Need-enum-known-filled
-enum-known-filled c = search needs
-
--- src/lib.rt:174:26
-enum-known-filled-2 : tie.Need-enum-known-filled-2
-enum-known-filled-2 c = search needs
-
--- src/lib.rt:175:29
-enum-known-filled-3 : tie.Need-enum-known-filled-3
-enum-known-filled-3 c = search needs
-
--- src/lib.rt:175:52
-slice-aggregate-check : tie.Need-slice-aggregate-check
-slice-aggregate-check c = search needs
-
--- src/lib.rt:175:63
-slice-aggregate-check-2 : tie.Need-slice-aggregate-check-2
-slice-aggregate-check-2 c = search needs
-
--- src/lib.rt:175:74
-slice-aggregate-check-3 : tie.Need-slice-aggregate-check-3
-slice-aggregate-check-3 c = search needs
-
--- src/lib.rt:175:35
 check-requires : tie.Need-check-requires
-check-requires c κs = ?
+check-requires c κs =
+    let m = c .before .before .before .before in
+    let x = m .before .before .before .before in
+    working-fits (rules x) (rows x) (vacant x) (pool x) (stack x) (long x) _ (read-text (rules x)) (fills x (m .filled3 .given .1))
 
--- src/lib.rt:165:1
 returns : tie.Need-returns
-returns c = ?
+returns c =
+    let m = c .before in
+    let x = m .before .before .before .before in
+    ([], faulty-serves (rules x) (rows x) (vacant x) (pool x) (stack x) (long x) _ (read-text (rules x)) refl (fills x (m .filled .given .1)) [])
 
--- src/lib.rt:165:1
 returns-2 : tie.Need-returns-2
-returns-2 c = ?
+returns-2 c =
+    let m = c .before in
+    let x = m .before .before .before .before in
+    ([], full-serves (rules x) (rows x) (vacant x) (pool x) (stack x) (long x) _ _ (read-text (rules x)) refl (fills x (m .filled2 .given .1)) [])
 
--- src/lib.rt:165:1
 returns-3 : tie.Need-returns-3
-returns-3 c = ?
+returns-3 c =
+    let k = c .before .before in
+    let m = k .before .before .before .before .before in
+    let x = m .before .before .before .before in
+    let told = k .check .ensures in
+    (told .0, working-serves (rules x) (rows x) (vacant x) (pool x) (stack x) (long x) _ (fills x (m .filled3 .given .1)) (told .0) (k .check .result) (told .1))
 
 pub serve-spec : {M : Type 1} → statement M
 serve-spec =
     tie.close
     (tie.spec
-    vacant-rows-requires
-    vacant-pool-requires
-    vacant-stack-requires
-    slice-aggregate-fill
-    slice-aggregate-fill-2
-    slice-aggregate-fill-3
-    fill-requires
-    enum-known-filled
-    enum-known-filled-2
-    enum-known-filled-3
-    slice-aggregate-check
-    slice-aggregate-check-2
-    slice-aggregate-check-3
+    (λ c κs. search needs)  -- vacant-rows-requires
+    (λ c κs. search needs)  -- vacant-pool-requires
+    (λ c κs. search needs)  -- vacant-stack-requires
+    (λ c. search needs) (λ c. search needs) (λ c. search needs)  -- slice-aggregate-fill to slice-aggregate-fill-3
+    (λ c κs. search needs)  -- fill-requires
+    (λ c. search needs) (λ c. search needs) (λ c. search needs)  -- enum-known-filled to enum-known-filled-3
+    (λ c. search needs) (λ c. search needs) (λ c. search needs)  -- slice-aggregate-check to slice-aggregate-check-3
     check-requires
     returns
     returns-2
