@@ -168,7 +168,7 @@ mod tests {
     /// The program says the same of a text's fault, and then how to mend it.
     #[test]
     fn the_program_has_these_words() {
-        let program = include_str!("../../crates/zahrubel_dimacs/src/main.rt");
+        let program = include_str!("../../crates/dimacs_say/src/lib.rt");
         for code in CODES.iter().filter(|code| OF_TEXTS.contains(&code.0)) {
             assert!(program.contains(&format!("b\"{}", code.1)), "{}", code.1);
         }

@@ -1,8 +1,8 @@
--- `zahrubel_dimacs::say_numbers` meets its contract.
+-- `dimacs_say::say_numbers` meets its contract.
 use borrow.Author.Needs.{needs}
 use Rattle.line_put.proofs.Writing.{wrote-first}
-use Rattle.zahrubel_dimacs.proofs.say_numbers.Statement.{statement}
-use Rattle.zahrubel_dimacs.proofs.say_numbers.Tie as tie
+use Rattle.dimacs_say.proofs.say_numbers.Statement.{statement}
+use Rattle.dimacs_say.proofs.say_numbers.Tie as tie
 
 pub say-numbers-spec : {M : Type 1} → statement M
 say-numbers-spec =
