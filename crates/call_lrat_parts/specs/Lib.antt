@@ -1,0 +1,3 @@
+-- What opening tables for a proof, and giving a part of it, come to, for every input: Parts. Running has what is said of the rows below them.
+pub mod Parts
+pub mod Running
