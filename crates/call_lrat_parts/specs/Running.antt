@@ -32,9 +32,12 @@ proof-left a c r = record { given = refused a c r; count = 0 }
 abbrev pub proof-stored : LratAnswer → Table → List ℕ → ProofReading → RanProof
 proof-stored a t stack r = record { given = refused a (carried-of t stack) r; count = t .count }
 
--- the answer that a reader knows
+-- the answer that a reader tells where it is known, and till then
+abbrev pub reader-told : ProofReader → LratAnswer
+reader-told r = answer (r .code) (cond (eqb (r .code) 0) 0 (r .lines))
+
 abbrev pub reader-answer : ProofReader → LratAnswer
-reader-answer r = cond (r .over) (answer (r .code) (cond (eqb (r .code) 0) 0 (r .lines))) (answer 0 0)
+reader-answer r = cond (r .over) (reader-told r) (answer 0 0)
 
 abbrev pub fresh-reading : ProofReading
 fresh-reading = record { reader = start-reader; lits = replicate 256 (pos 0); plus = replicate 32 0; minus = replicate 32 0 }

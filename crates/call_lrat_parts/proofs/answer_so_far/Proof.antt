@@ -1,21 +1,19 @@
+-- `call_lrat_parts::answer_so_far` meets its contract.
+use mathlib.Core.Path.{refl}
 use borrow.Author.Needs.{needs}
 use Rattle.call_lrat_parts.proofs.answer_so_far.Statement.{statement}
 use Rattle.call_lrat_parts.proofs.answer_so_far.Tie as tie
-use Rattle.call_lrat_parts.proofs.answer_so_far.Reads as reads
-use Rattle.call_lrat_parts.proofs.answer_so_far.Lts as lts
-use Rattle.lrat_feed.proofs.told.Reads as told-reads
 
--- src/lib.rt:135:9
-told-requires : tie.Need-told-requires
-told-requires c κs = search needs
-
--- src/lib.rt:135:9
 returns : tie.Need-returns
-returns c = ?
+returns c = rw (c .before .if1 .taken) (c .told .ensures)
 
--- src/lib.rt:131:1
 returns-2 : tie.Need-returns-2
-returns-2 c = ?
+returns-2 c = rw (c .if1 .left) refl
 
 pub answer-so-far-spec : {M : Type 1} → statement M
-answer-so-far-spec = tie.close (tie.spec told-requires returns returns-2)
+answer-so-far-spec =
+    tie.close
+    (tie.spec
+    (λ c κs. search needs)  -- told-requires
+    returns
+    returns-2)

@@ -1,22 +1,21 @@
+-- `call_lrat_parts::emptied` meets its contract.
+use mathlib.Core.Path.{ap, _∙_}
 use borrow.Author.Needs.{needs}
+use Rattle.lent.specs.declared.Called.{Called}
+use Rattle.lrat.specs.Checking.{answer}
+use Rattle.call_lrat_parts.specs.Running.{proof-left}
 use Rattle.call_lrat_parts.proofs.emptied.Statement.{statement}
 use Rattle.call_lrat_parts.proofs.emptied.Tie as tie
-use Rattle.call_lrat_parts.proofs.emptied.Reads as reads
-use Rattle.call_lrat_parts.proofs.emptied.Lts as lts
-use Rattle.call_lrat_parts.proofs.left.Reads as left-reads
-use Rattle.lent_open.proofs.open_sized.Reads as open-sized-reads
 
--- src/lib.rt:246:9
-open-sized-requires : tie.Need-open-sized-requires
-open-sized-requires c κs = search needs
-
--- src/lib.rt:248:5
-left-requires : tie.Need-left-requires
-left-requires c κs = search needs
-
--- src/lib.rt:243:1
 returns : tie.Need-returns
-returns c = ?
+returns c =
+    let a = c .before .before .before .args in
+    c .left .ensures ∙ ap (λ (x : Called). proof-left (answer (a .code) 0) (x .carried) (a .r)) (c .before .before .open-sized .ensures)
 
 pub emptied-spec : {M : Type 1} → statement M
-emptied-spec = tie.close (tie.spec open-sized-requires left-requires returns)
+emptied-spec =
+    tie.close
+    (tie.spec
+    (λ c κs. search needs)  -- open-sized-requires
+    (λ c κs. search needs)  -- left-requires
+    returns)

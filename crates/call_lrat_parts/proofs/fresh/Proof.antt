@@ -1,17 +1,18 @@
+-- `call_lrat_parts::fresh` meets its contract.
+use mathlib.Core.Path.{ap}
 use borrow.Author.Needs.{needs}
+use lib.IntN.{pos}
+use lib.ListN.{replicate}
+use Rattle.call_lrat_parts.proofs.Running.{reading-of}
 use Rattle.call_lrat_parts.proofs.fresh.Statement.{statement}
 use Rattle.call_lrat_parts.proofs.fresh.Tie as tie
-use Rattle.call_lrat_parts.proofs.fresh.Reads as reads
-use Rattle.call_lrat_parts.proofs.fresh.Lts as lts
-use Rattle.lrat_feed.proofs.start.Reads as start-reads
 
--- src/lib.rt:225:17
-start-requires : tie.Need-start-requires
-start-requires c κs = search needs
-
--- src/lib.rt:221:1
 returns : tie.Need-returns
-returns c = ?
+returns c = ap (λ r. reading-of r (replicate 256 (pos 0)) (replicate 32 0) (replicate 32 0)) (c .start .ensures)
 
 pub fresh-spec : {M : Type 1} → statement M
-fresh-spec = tie.close (tie.spec start-requires returns)
+fresh-spec =
+    tie.close
+    (tie.spec
+    (λ c κs. search needs)  -- start-requires
+    returns)

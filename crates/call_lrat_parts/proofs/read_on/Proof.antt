@@ -1,64 +1,40 @@
+-- `call_lrat_parts::read_on` meets its contract.
+use mathlib.Core.Path.{_≡_}
+use lib.ListN.{length}
 use borrow.Author.Needs.{needs}
+use Rattle.call_lrat_parts.proofs.Running.{read-asks, read-further}
 use Rattle.call_lrat_parts.proofs.read_on.Statement.{statement}
 use Rattle.call_lrat_parts.proofs.read_on.Tie as tie
-use Rattle.call_lrat_parts.proofs.read_on.Reads as reads
-use Rattle.call_lrat_parts.proofs.read_on.Lts as lts
-use Rattle.call_lrat_parts.proofs.answer_so_far.Reads as answer-so-far-reads
-use Rattle.call_lrat_parts.proofs.feed_part.Reads as feed-part-reads
-use Rattle.call_lrat_parts.proofs.stored.Reads as stored-reads
-use Rattle.table_room.proofs.squeeze.Reads as squeeze-reads
 
--- src/lib.rt:159:33
-slice-aggregate-feed-part : tie.Need-slice-aggregate-feed-part
-slice-aggregate-feed-part c = search needs
+long : (s : tie.Start) → length (s .args .r .lits) ≡ 256
+long s = search (needs, s .good .1 .1 .1 .1 .0)
 
--- src/lib.rt:159:52
-slice-aggregate-feed-part-2 : tie.Need-slice-aggregate-feed-part-2
-slice-aggregate-feed-part-2 c = search needs
-
--- src/lib.rt:158:9
 feed-part-requires : tie.Need-feed-part-requires
-feed-part-requires c κs = ?
+feed-part-requires c κs =
+    let s = c .before .before .before .before .before .before .before .before .before .before .before in
+    read-asks (s .args .r) (s .pre .0) (s .pre .1) (long s)
 
--- src/lib.rt:162:49
 slice-aggregate-squeeze : tie.Need-slice-aggregate-squeeze
-slice-aggregate-squeeze c = ?
+slice-aggregate-squeeze c = search (needs, c .before .before .before .before .before .before .before .before .before .before .before .before .before .before .before .before .before .before .before .good .1 .1 .0)
 
--- src/lib.rt:162:9
-squeeze-requires : tie.Need-squeeze-requires
-squeeze-requires c κs = search needs
-
--- src/lib.rt:170:12
-answer-so-far-requires : tie.Need-answer-so-far-requires
-answer-so-far-requires c κs = search needs
-
--- src/lib.rt:170:5
-stored-requires : tie.Need-stored-requires
-stored-requires c κs = search needs
-
--- src/lib.rt:141:1
-same-length : tie.Need-same-length
-same-length c = search needs
-
--- src/lib.rt:141:1
-same-length-2 : tie.Need-same-length-2
-same-length-2 c = search needs
-
--- src/lib.rt:141:1
 returns : tie.Need-returns
-returns c = ?
+returns c =
+    let f = c .before .before .before .before .before .before .before .before .before .before .before .before in
+    let a = f .before .before .before .before .before .before .before .before .before .before .before .before .args in
+    rw (c .stored .ensures, c .before .answer-so-far .ensures)
+    (read-further _ _ _ _ (a .r) (a .part .now) (a .last) (f .feed-part .result) _ _ _ (f .feed-part .ensures)
+    (c .before .before .before .before .squeeze .ensures))
 
 pub read-on-spec : {M : Type 1} → statement M
 read-on-spec =
     tie.close
     (tie.spec
-    slice-aggregate-feed-part
-    slice-aggregate-feed-part-2
+    (λ c. search needs)  -- slice-aggregate-feed-part
+    (λ c. search needs)  -- slice-aggregate-feed-part-2
     feed-part-requires
     slice-aggregate-squeeze
-    squeeze-requires
-    answer-so-far-requires
-    stored-requires
-    same-length
-    same-length-2
+    (λ c κs. search needs)  -- squeeze-requires
+    (λ c κs. search needs)  -- answer-so-far-requires
+    (λ c κs. search needs)  -- stored-requires
+    (λ c. search needs) (λ c. search needs)  -- same-length, same-length-2
     returns)

@@ -1,21 +1,27 @@
+-- `call_lrat_parts::stored` meets its contract.
+use mathlib.Core.Path.{ap}
 use borrow.Author.Needs.{needs}
+use Rattle.lent.specs.declared.Carried.{Carried}
+use Rattle.call_lrat_parts.specs.Parts.{refused}
+use Rattle.lrat.specs.declared.LratAnswer.{LratAnswer}
+use Rattle.call_lrat_parts.specs.declared.ProofReading.{ProofReading}
+use Rattle.call_lrat_parts.specs.declared.RanProof.{RanProof}
+use Prim.Native.Nat.{ℕ}
 use Rattle.call_lrat_parts.proofs.stored.Statement.{statement}
 use Rattle.call_lrat_parts.proofs.stored.Tie as tie
-use Rattle.call_lrat_parts.proofs.stored.Reads as reads
-use Rattle.call_lrat_parts.proofs.stored.Lts as lts
-use Rattle.lent.proofs.carry.Reads as carry-reads
 
--- src/lib.rt:78:22
-carry-requires : tie.Need-carry-requires
-carry-requires c κs = search needs
+abbrev handed : LratAnswer → Carried → ProofReading → ℕ → RanProof
+handed a c r n = record { given = refused a c r; count = n }
 
--- src/lib.rt:81:16
-cast-t7 : tie.Need-cast-t7
-cast-t7 c = search needs
-
--- src/lib.rt:72:1
 returns : tie.Need-returns
-returns c = ?
+returns c =
+    let a = c .before .before .args in
+    ap (λ (x : Carried). handed (a .answer) x (a .reading) (a .t .count)) (c .before .carry .ensures)
 
 pub stored-spec : {M : Type 1} → statement M
-stored-spec = tie.close (tie.spec carry-requires cast-t7 returns)
+stored-spec =
+    tie.close
+    (tie.spec
+    (λ c κs. search needs)  -- carry-requires
+    (λ c. search needs)  -- cast-t7
+    returns)
