@@ -29,7 +29,7 @@ use Rattle.lrat.proofs.Runs.{over-stays}
 use Rattle.lrat_feed.specs.Feeding.{session-of, Feedable, Feeds}
 use Rattle.lrat_feed.specs.declared.Fed.{Fed}
 use Rattle.call_lrat_parts.specs.Parts.{is-reading, session, ended}
-use Rattle.call_lrat_parts.specs.Running.{proof-left, proof-stored, reader-told, reader-answer, ReadOn, RanFrom, RanOn}
+use Rattle.call_lrat_parts.specs.Running.{proof-left, proof-stored, reader-told, reader-answer, ReadOn, RanFrom, RanOn, give-sized, GiveRun}
 use Rattle.call_lrat_parts.specs.declared.ProofReading.{ProofReading}
 use Rattle.call_lrat_parts.specs.declared.RanProof.{RanProof}
 use Rattle.call_lrat_parts.proofs.Sizes.{ended-size}
@@ -154,3 +154,13 @@ module _ (n : ℕ) (rows : List Row) (pool : List ℤ) (c : Carried) (r : ProofR
           back = record { bounded = e .bounded; stores = λ _. e .stores; leaves = λ u. true-false (ap not o) u };
           again = λ t. true-false t o;
         }
+
+-- ---- the sizes, and what is read
+
+module _ (n : ℕ) (rows : List Row) (pool : List ℤ) (c : Carried) (r : ProofReading) (part : List ℕ) (last : Bool) where
+  pub give-refused : give-sized n pool r ≡ false → {rows′ : List Row} → GiveRun n rows pool c r part last (proof-left (answer 1 0) c r) rows′ pool
+  give-refused f = record { bounded = (omega arith, omega arith); judged-so = λ t. true-false t f; refused = λ g. (refl, refl) }
+
+  pub give-judged : give-sized n pool r ≡ true → {q : RanProof} {rows′ : List Row} {pool′ : List ℤ} → length rows′ ≡ 1280 →
+      RanOn n rows pool c r part last q rows′ pool′ → GiveRun n rows pool c r part last q rows′ pool′
+  give-judged t l s = record { bounded = (s .bounded .0, omega (arith, s .bounded .1)); judged-so = λ g. s; refused = λ f. true-false t f }

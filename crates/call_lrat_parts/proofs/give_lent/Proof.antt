@@ -1,64 +1,58 @@
+-- `call_lrat_parts::give_lent` meets its contract.
+use mathlib.Core.Path.{_≡_, refl, sym, _∙_}
+use mathlib.Core.Bool.{true, false}
 use borrow.Author.Needs.{needs}
+use Rattle.rules.proofs.Lists.{and-both, not-true, not-false}
+use Rattle.call_lrat_parts.specs.Running.{give-sized}
+use Rattle.call_lrat_parts.proofs.Running.{give-refused, give-judged}
 use Rattle.call_lrat_parts.proofs.give_lent.Statement.{statement}
 use Rattle.call_lrat_parts.proofs.give_lent.Tie as tie
-use Rattle.call_lrat_parts.proofs.give_lent.Reads as reads
-use Rattle.call_lrat_parts.proofs.give_lent.Lts as lts
-use Rattle.call_lrat_parts.proofs.is_reading.Reads as is-reading-reads
-use Rattle.call_lrat_parts.proofs.run_part.Reads as run-part-reads
-use Rattle.call_lrat_parts.proofs.unmet.Reads as unmet-reads
-use Rattle.lent.proofs.in_sizes.Reads as in-sizes-reads
 
--- src/lib.rt:210:9
-in-sizes-requires : tie.Need-in-sizes-requires
-in-sizes-requires c κs = search needs
+-- the sizes are in range, and a proof is being read
+module _ (x : tie.Else2) where
+  abbrev s : tie.Start
+  s = x .before .before .before .before .before
 
--- src/lib.rt:211:9
-unmet-requires : tie.Need-unmet-requires
-unmet-requires c κs = search needs
+  fits : give-sized (s .args .n) (s .args .pool .now) (s .args .r) ≡ true
+  fits = and-both (sym (x .before .before .before .in-sizes .ensures) ∙ not-false (x .before .before .if1 .left))
+      (sym (x .before .is-reading .ensures) ∙ not-false (x .if2 .left))
 
--- src/lib.rt:211:9
 returns : tie.Need-returns
-returns c = ?
+returns c =
+    let a = c .before .before .before .before .args in
+    let f = sym (c .before .before .in-sizes .ensures) ∙ not-true (c .before .if1 .taken) in
+    rw (c .unmet .ensures) (give-refused (a .n) (a .rows .now) (a .pool .now) (a .c) (a .r) (a .part .now) (a .last) (rw f refl))
 
--- src/lib.rt:213:9
-is-reading-requires : tie.Need-is-reading-requires
-is-reading-requires c κs = search needs
-
--- src/lib.rt:214:9
-unmet-requires-2 : tie.Need-unmet-requires-2
-unmet-requires-2 c κs = search needs
-
--- src/lib.rt:214:9
 returns-2 : tie.Need-returns-2
-returns-2 c = ?
+returns-2 c =
+    let a = c .before .before .before .before .before .before .args in
+    let t = sym (c .before .before .before .before .in-sizes .ensures) ∙ not-false (c .before .before .before .if1 .left) in
+    let f = sym (c .before .before .is-reading .ensures) ∙ not-true (c .before .if2 .taken) in
+    rw (c .unmet2 .ensures) (give-refused (a .n) (a .rows .now) (a .pool .now) (a .c) (a .r) (a .part .now) (a .last) (rw (t, f) refl))
 
--- src/lib.rt:216:5
 run-part-requires : tie.Need-run-part-requires
-run-part-requires c κs = ?
+run-part-requires c κs =
+    let x = c .before .before in
+    (s x .pre, sym (x .before .before .before .in-sizes .ensures) ∙ not-false (x .before .before .if1 .left),
+    sym (x .before .is-reading .ensures) ∙ not-false (x .if2 .left))
 
--- src/lib.rt:198:1
-same-length : tie.Need-same-length
-same-length c = search needs
-
--- src/lib.rt:198:1
-same-length-2 : tie.Need-same-length-2
-same-length-2 c = search needs
-
--- src/lib.rt:198:1
 returns-3 : tie.Need-returns-3
-returns-3 c = ?
+returns-3 c =
+    let x = c .before .before .before .before .before in
+    let a = s x .args in
+    let ran = c .before .before .run-part in
+    give-judged (a .n) (a .rows .now) (a .pool .now) (a .c) (a .r) (a .part .now) (a .last) (fits x) (ran .kept .1 .0 ∙ s x .pre) (ran .ensures)
 
 pub give-lent-spec : {M : Type 1} → statement M
 give-lent-spec =
     tie.close
     (tie.spec
-    in-sizes-requires
-    unmet-requires
+    (λ c κs. search needs)  -- in-sizes-requires
+    (λ c κs. search needs)  -- unmet-requires
     returns
-    is-reading-requires
-    unmet-requires-2
+    (λ c κs. search needs)  -- is-reading-requires
+    (λ c κs. search needs)  -- unmet-requires-2
     returns-2
     run-part-requires
-    same-length
-    same-length-2
+    (λ c. search needs) (λ c. search needs)  -- same-length, same-length-2
     returns-3)
