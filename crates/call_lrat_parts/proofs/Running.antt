@@ -17,7 +17,7 @@ use Rattle.table.specs.Spelled.{Row}
 use Rattle.table.specs.declared.Table.{Table}
 use Rattle.table_room.specs.Room.{Squeezed}
 use Rattle.lent.specs.State.{is-state, state-of}
-use Rattle.lent.specs.Stored.{PutsBack}
+use Rattle.lent.specs.Stored.{carried-of, PutsBack}
 use Rattle.lent.specs.declared.Carried.{Carried}
 use Rattle.lent.proofs.Stored.{stored-back, nothing-back}
 use Rattle.lent_load.specs.Loads.{Loads}
@@ -58,6 +58,12 @@ read-asks r f e long =
       noted = leb-true 31 (l .noted) (and-right kept _ rest);
     }
 
+-- what goes back of it, whatever was lent before
+pub goes-back : {t : Table} {rows : List Row} {pool : List ℤ} {stack : List ℕ} → working.Fit t rows pool stack → t .gone ≡ 0 →
+    {n : ℕ} {s : State} → t .entries ≡ n → working.spelled t rows pool stack ≡ s →
+    PutsBack true n (carried-of t stack) pool s (t .count) (carried-of t stack) rows pool s
+goes-back f stay sized spells = stored-back f stay refl sized spells
+
 -- a part, and the end of the proof behind it where it is the last
 module _ (m : Session) (part : List ℕ) (last : Bool) where
   pub part-fed : last ≡ false → {f : Fed} {rows : List Row} {pool : List ℤ} {stack : List ℕ} {lits : List ℤ} {plus minus : List ℕ} →
@@ -82,8 +88,7 @@ read-further t rows pool stack r part last f {rows₁} {pool₁} lits₁ plus₁
     let sized : u .entries ≡ t .entries = ap (λ (x : State). x .entries) (q .same)
     ∙ ap (λ (x : Session). x .state .entries) (fed .moved)
     ∙ ap (λ (x : State). x .entries) (ended-size last (session r before) part) in
-    let back = stored-back {s = before} {c = record { vars = 0; highest = 0; count = 0; words = 0; depth = 0; stack = stack }} {pool₀ = pool}
-    (q .fit) (q .none-gone) {altered = true} refl sized (q .same) in
+    let back = goes-back (q .fit) (q .none-gone) sized (q .same) in
     record {
       after = session-of (f .reader) lits₁ plus₁ minus₁ (working.spelled (f .table) rows₁ pool₁ stack);
       fed = fed .moved;

@@ -14,9 +14,9 @@ use Rattle.call_lrat_parts.specs.Parts.{ended}
 abbrev As-large : State → Session → Type 0
 As-large s m = emptied (m .state) ≡ emptied s
 
-either : (b : Bool) (s : State) (x y : Session) → As-large s x → As-large s y → As-large s (cond b x y)
-either true s x y h k = h
-either false s x y h k = k
+either : (b : Bool) (x y : Session) {e : State} → emptied (x .state) ≡ e → emptied (y .state) ≡ e → emptied (cond b x y .state) ≡ e
+either true x y h k = h
+either false x y h k = k
 
 word-size : (m : Session) → As-large (m .state) (end-word m)
 unfolding end-word
@@ -31,7 +31,7 @@ line-size m = close-size (end-word m) ∙ word-size m
 
 move-size : (m : Session) (b : ℕ) → As-large (m .state) (move m b)
 unfolding move
-move-size m b = either (m .over) _ _ _ refl (either (eqb b 10) _ _ _ (line-size m) (either (is-blank b) _ _ _ (word-size m) refl))
+move-size m b = either (m .over) _ _ refl (either (eqb b 10) _ _ (line-size m) (either (is-blank b) _ _ (word-size m) refl))
 
 run-size : (bs : List ℕ) (m : Session) → As-large (m .state) (run m bs)
 unfolding run
@@ -39,11 +39,11 @@ run-size [] m = refl
 run-size (b ∷ bs) m = run-size bs (move m b) ∙ move-size m b
 
 decided-size : (m : Session) → As-large (m .state) (decided m)
-decided-size m = either (m .over) _ _ _ refl refl
+decided-size m = either (m .over) _ _ refl refl
 
 finish-size : (m : Session) → As-large (m .state) (finish m)
 unfolding finish
-finish-size m = either (m .over) _ _ _ refl (decided-size (end-line m) ∙ either (eqb (m .word .kind) 0) _ _ _ refl (line-size m))
+finish-size m = either (m .over) _ _ refl (decided-size (end-line m) ∙ either (eqb (m .word .kind) 0) _ _ refl (line-size m))
 
 pub ended-size : (last : Bool) (m : Session) (bs : List ℕ) → emptied (ended last (run m bs) .state) ≡ emptied (m .state)
-ended-size last m bs = either last _ _ _ (finish-size (run m bs) ∙ run-size bs m) (run-size bs m)
+ended-size last m bs = either last _ _ (finish-size (run m bs) ∙ run-size bs m) (run-size bs m)

@@ -6,12 +6,15 @@ use Rattle.call_lrat_parts.proofs.feed_part.Statement.{statement}
 use Rattle.call_lrat_parts.proofs.feed_part.Tie as tie
 
 returns : tie.Need-returns
-returns c = part-fed _ _ _ (not-true (c .if1 .taken)) (c .before .before .before .before .feed .ensures)
+returns c =
+    part-fed _ _ (c .before .before .before .before .before .before .before .before .before .before .before .before .args .last)
+    (not-true (c .if1 .taken)) (c .before .before .before .before .feed .ensures)
 
 returns-2 : tie.Need-returns-2
 returns-2 c =
     let fed = c .before .before .before .before .before .before .before .before .before .before .before .before .before .before .before .feed in
-    part-ends _ _ _ (not-false (c .before .before .before .before .before .before .before .before .before .before .before .if1 .left))
+    part-ends _ _ (c .before .before .before .before .before .before .before .before .before .before .before .before .before .before .before .before .before .before .before .before .before .before .before
+    .args .last) (not-false (c .before .before .before .before .before .before .before .before .before .before .before .if1 .left))
     (fed .ensures .moved) (c .before .before .before .finish .ensures)
 
 pub feed-part-spec : {M : Type 1} → statement M

@@ -22,7 +22,7 @@ returns c =
     let f = c .before .before .before .before .before .before .before .before .before .before .before .before in
     let a = f .before .before .before .before .before .before .before .before .before .before .before .before .args in
     rw (c .stored .ensures, c .before .answer-so-far .ensures)
-    (read-further _ _ _ _ (a .r) (a .part .now) (a .last) (f .feed-part .result) _ _ _ (f .feed-part .ensures)
+    (read-further (a .t) (a .rows .now) (a .pool .now) (a .t3) (a .r) (a .part .now) (a .last) (f .feed-part .result) _ _ _ (f .feed-part .ensures)
     (c .before .before .before .before .squeeze .ensures))
 
 pub read-on-spec : {M : Type 1} → statement M
