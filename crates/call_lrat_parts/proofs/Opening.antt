@@ -3,14 +3,14 @@ use mathlib.Core.Path.{_≡_, refl, sym, ap, _∙_}
 use mathlib.Core.Bool.{true, false}
 use mathlib.Core.List.{List, map}
 use mathlib.Core.Option.{some}
-use Prim.Native.Nat.{ℕ}
+use Prim.Native.Nat.{ℕ, _≤_}
 use native.Mathlib.Omega.{arith}
 use lib.IntN.{ℤ}
 use lib.ListN.{length, take, length-map}
 use Rattle.rules.specs.Terms.{State, in-range}
 use Rattle.rules.specs.Answers.{lent, check-open}
 use Rattle.rules.specs.declared.Check.{Check}
-use Rattle.rules.proofs.Lists.{by-cases, all-nil, and-both}
+use Rattle.rules.proofs.Lists.{by-cases, all-nil}
 use Rattle.lit_sets.proofs.Sets.{zeros-empty}
 use Rattle.table_slices.specs.Writes.{over}
 use Rattle.table_slices.proofs.Slices.{take-over}
@@ -44,7 +44,7 @@ module _ (n : ℕ) (pool : List ℤ) (c : Carried) (r : ProofReading) (cnf : Lis
   pub unlent : lent n (length pool) ≡ false → {rows′ : List Row} → OpenRun n pool c r cnf (proof-left (answer 1 0) c r) rows′ pool
   unlent f = record { bounded = (omega arith, omega arith); opens = rw f (refl, refl) }
 
-  module _ (t : lent n (length pool) ≡ true) {rows₁ : List Row} {pool₁ : List ℤ} {stack : List ℕ} where
+  module _ (t : lent n (length pool) ≡ true) (stack : List ℕ) {rows₁ : List Row} {pool₁ : List ℤ} where
     -- a text with a fault
     pub faulted : (f : TextFault) → Fills n (read-text cnf) (Faulty f) rows₁ pool pool₁ stack →
         OpenRun n pool c r cnf (proof-left (answer (fault-numbers f .0) (fault-numbers f .1)) c r) rows₁ pool₁
@@ -74,25 +74,33 @@ module _ (n : ℕ) (pool : List ℤ) (c : Carried) (r : ProofReading) (cnf : Lis
             let passed = opens (x .vars) n (length pool) t (body .low) (body .high) in
             rw full (rw (v, long) (ap (λ (k : Check). proof-left (answer code 0) (opened-with (x .vars) k .carried) r) passed))
 
-    -- the table holds them
+    -- the table holds them, and fits
+    pub held-fits : (w : Table) → Fills n (read-text cnf) (Working w) rows₁ pool pool₁ stack → working.Fit w rows₁ pool₁ stack
+    held-fits w h = by-read (read-text cnf) h
+      where
+        by-read : (x : Read Cnf) → Fills n x (Working w) rows₁ pool pool₁ stack → working.Fit w rows₁ pool₁ stack
+        by-read (faulty g) d = let q = d .0 in let z : _≡_ {A = ℕ} 0 1 = cc in absurd (omega arith)
+        by-read (sound x) d = d .fills .0
+
     pub held : (w : Table) → Fills n (read-text cnf) (Working w) rows₁ pool pool₁ stack → {u : Table} {rows₂ : List Row} → length rows₂ ≡ 1280 →
         Squeezed w rows₁ pool₁ stack u rows₂ → OpenRun n pool c r cnf (proof-stored (answer 0 0) u stack fresh-reading) rows₂ pool₁
-    held w h {u} {rows₂} long q = rw t (by-read (read-text cnf) h)
+    held w h {u} {rows₂} long q = let b = by-read (read-text cnf) h in record { bounded = b .0; opens = rw t (b .1) }
       where
-        by-read : (x : Read Cnf) → Fills n x (Working w) rows₁ pool pool₁ stack →
+        by-read : (x : Read Cnf) → Fills n x (Working w) rows₁ pool pool₁ stack → ((u .count ≤ n) × (u .count ≤ 1280)) ×
             OpensOn (by-text n (length pool) x) n pool c r (proof-stored (answer 0 0) u stack fresh-reading) rows₂ pool₁
         by-read (faulty g) d = let q = d .0 in let z : _≡_ {A = ℕ} 0 1 = cc in absurd (omega arith)
         by-read (sound x) d =
             let full = d .fills .1 in
             let sized = ap (λ (s : State). s .entries) (q .same)
             ∙ ap (λ (s : State). s .entries) (filled-size (x .clauses) (opened-for n (length pool) x) 1 full) in
-            rw full (refl, refl, goes-back (q .fit) (q .none-gone) sized (q .same) .stores refl)
+            let back = goes-back (q .fit) (q .none-gone) sized (q .same) in
+            ((back .bounded .0, omega (arith, back .bounded .1, long)), rw full (refl, refl, back .stores refl))
 
 -- ---- what is lent
 
 -- nothing of a proof is read
 fresh-is : is-reading fresh-reading ≡ true
-fresh-is = all-nil (in-range 2048)
+fresh-is = let e = all-nil (in-range 2048) in rw e refl
 
 fresh-starts : (s : State) → session fresh-reading s ≡ started s
 fresh-starts s = rw zeros-empty refl
