@@ -6,3 +6,4 @@ pub mod Running
 pub mod Giving
 pub mod Opening
 pub mod Values
+pub mod Chains
