@@ -20,40 +20,46 @@ use Rattle.lrat.specs.declared.LratAnswer.{LratAnswer}
 use Rattle.lrat.proofs.Fed.{run-on}
 use Rattle.lrat.proofs.Runs.{finish-over}
 use Rattle.lrat.proofs.Whole.{small, run-is-lrat, left-empty}
-use Rattle.call_lrat_parts.specs.Parts.{is-reading, met, session, Rules, unopened, no-room, holding, by-room, by-text, rules-of, LratOpens, answer-so-far}
-use Rattle.call_lrat_parts.specs.Chains.{Gives, last-part, then-part, ChecksInParts}
+use Rattle.call_lrat_parts.specs.Parts.{is-reading, met, session, Rules, unopened, no-room, holding, by-room, by-text, rules-of, LratOpens}
+use Rattle.call_lrat_parts.specs.Parts.{ended, answer-so-far}
+use Rattle.call_lrat_parts.specs.Chains.{Gives, one-part, then-parts, ChecksInParts}
 use Rattle.call_lrat_parts.specs.declared.ProofReading.{ProofReading}
 use Rattle.call_lrat_parts.specs.declared.LratGiven.{LratGiven}
+use Rattle.call_lrat_parts.proofs.Running.{over-ended}
 
 -- ---- the parts
 
 -- what the last call hands out, where the first part met s
-record Ran (s : State) (r : ProofReading) (proof : List ℕ) (q : LratGiven) (entries′ : List Entry) (pool′ : List ℤ) : Type 0 where
+record Ran (last : Bool) (s : State) (r : ProofReading) (proof : List ℕ) (q : LratGiven) (entries′ : List Entry) (pool′ : List ℤ) : Type 0 where
   after : Session
-  fed : after ≡ finish (run (session r s) proof)
+  fed : after ≡ ended last (run (session r s) proof)
   answered : q .answer ≡ answer-so-far after
   spells : met entries′ pool′ (q .carried) (q .reading) ≡ some (after .state)
+  reads : session (q .reading) (after .state) ≡ after
 
-parts-run : {entries : List Entry} {pool : List ℤ} {c : Carried} {r : ProofReading} {parts : List (List ℕ)} {q : LratGiven} {entries′ : List Entry}
-    {pool′ : List ℤ} → Gives entries pool c r parts q entries′ pool′ → (s : State) → met entries pool c r ≡ some s →
-    Ran s r (flatten parts) q entries′ pool′
+parts-run : {entries : List Entry} {pool : List ℤ} {c : Carried} {r : ProofReading} {parts : List (List ℕ)} {last : Bool} {q : LratGiven}
+    {entries′ : List Entry} {pool′ : List ℤ} → Gives entries pool c r parts last q entries′ pool′ → (s : State) → met entries pool c r ≡ some s →
+    Ran last s r (flatten parts) q entries′ pool′
 unfolding run flatten
-parts-run {r = r} (last-part part q entries′ pool′ g) s e =
+parts-run {r = r} (one-part part last q entries′ pool′ g) s e =
     let f = g .given s e in
     record {
       after = f .after;
-      fed = f .fed ∙ ap finish (sym (run-on (session r s) part []));
+      fed = f .fed ∙ ap (ended last) (sym (run-on (session r s) part []));
       answered = f .answered;
       spells = f .spells;
+      reads = f .reads;
     }
-parts-run {r = r} (then-part part h entries₁ pool₁ g {parts} more) s e =
+parts-run {r = r} (then-parts part h entries₁ pool₁ g {parts} {last} more) s e =
     let f = g .given s e in
     let rest = parts-run more (f .after .state) (f .spells) in
     record {
       after = rest .after;
-      fed = rest .fed ∙ ap (λ m. finish (run m (flatten parts))) (f .reads ∙ f .fed) ∙ ap finish (sym (run-on (session r s) part (flatten parts)));
+      fed = rest .fed
+          ∙ ap (λ m. ended last (run m (flatten parts))) (f .reads ∙ f .fed) ∙ ap (ended last) (sym (run-on (session r s) part (flatten parts)));
       answered = rest .answered;
       spells = rest .spells;
+      reads = rest .reads;
     }
 
 -- ---- the rules
@@ -113,8 +119,8 @@ met-lent : (reading : Bool) {lent-state : Option State} {s : State} → cond rea
 met-lent true e = e
 met-lent false e = let z : _≡_ {A = ℕ} 0 1 = cc in absurd (omega arith)
 
-module _ {entries : List Entry} {pool : List ℤ} {c : Carried} {r : ProofReading} {cnf : List ℕ} {parts : List (List ℕ)} {q : LratGiven}
-    {entries′ : List Entry} {pool′ : List ℤ} (k : ChecksInParts entries pool c r cnf parts q entries′ pool′) {s : State}
+module _ {entries : List Entry} {pool : List ℤ} {c : Carried} {r : ProofReading} {cnf : List ℕ} {parts : List (List ℕ)} {last : Bool} {q : LratGiven}
+    {entries′ : List Entry} {pool′ : List ℤ} (k : ChecksInParts entries pool c r cnf parts last q entries′ pool′) {s : State}
     (e : rules-of (length entries) (length pool) cnf ≡ holding s) where
   h : Held (length entries) (length pool) cnf s
   h = rules-held (length entries) (length pool) cnf e
@@ -122,28 +128,54 @@ module _ {entries : List Entry} {pool : List ℤ} {c : Carried} {r : ProofReadin
   opened-so : LratOpens (holding s) entries pool c r (k .first) (k .entries₁) (k .pool₁)
   opened-so = subst (λ x. LratOpens x entries pool c r (k .first) (k .entries₁) (k .pool₁)) e (k .opens .opens)
 
-  ran : Ran s (k .first .reading) (flatten parts) q entries′ pool′
+  ran : Ran last s (k .first .reading) (flatten parts) q entries′ pool′
   ran = parts-run (k .gives) s (opened-so .1)
 
-  fed-all : ran .after ≡ finish (run (started s) (flatten parts))
-  fed-all = ran .fed ∙ ap (λ m. finish (run m (flatten parts))) (opened-so .2)
+  fed-all : ran .after ≡ ended last (run (started s) (flatten parts))
+  fed-all = ran .fed ∙ ap (λ m. ended last (run m (flatten parts))) (opened-so .2)
 
-  known : ran .after .over ≡ true
-  known = ap (λ (m : Session). m .over) fed-all
-      ∙ finish-over s (small (length entries) (length pool) cnf (flatten parts) (h .read) (h .fills)) (flatten parts)
+  -- the run over a proof that begins with the parts is over where they are: then the answer is the proof's, and the tables are empty
+  module _ (proof : List ℕ) (whole : ran .after ≡ finish (run (started s) proof)) where
+    known : ran .after .over ≡ true
+    known = ap (λ (m : Session). m .over) whole ∙ finish-over s (small (length entries) (length pool) cnf proof (h .read) (h .fills)) proof
 
-  -- the last answer is the definition's for the whole proof
-  pub parts-are-the-whole : q .answer ≡ lrat (length entries) (length pool) cnf (flatten parts)
-  parts-are-the-whole =
-      let o = known in
-      ran .answered ∙ rw o (ap told fed-all ∙ run-is-lrat (length entries) (length pool) cnf (flatten parts) (h .read) (h .fills) (h .fits))
+    answers : q .answer ≡ lrat (length entries) (length pool) cnf proof
+    answers =
+        let o = known in
+        ran .answered ∙ rw o (ap told whole ∙ run-is-lrat (length entries) (length pool) cnf proof (h .read) (h .fills) (h .fits))
 
-  -- "opened empty and left so whatever the outcome"
-  pub parts-left-empty : {x : Cnf} → read-text cnf ≡ sound x →
-      state-lent entries′ pool′ (q .carried) ≡ some (opened (x .vars) (length entries) (length pool))
-  parts-left-empty {x} d =
-      let both : sound (h .text) ≡ sound x = sym (h .read) ∙ d in
-      let same : h .text ≡ x = cc in
-      met-lent (is-reading (q .reading)) (ran .spells) ∙ ap some (ap (λ (m : Session). m .state) fed-all
-      ∙ left-empty (length entries) (length pool) cnf (flatten parts) (h .read) (h .fills)
-      ∙ ap (λ (y : Cnf). opened (y .vars) (length entries) (length pool)) same)
+    empties : {x : Cnf} → read-text cnf ≡ sound x → state-lent entries′ pool′ (q .carried) ≡ some (opened (x .vars) (length entries) (length pool))
+    empties {x} d =
+        let both : sound (h .text) ≡ sound x = sym (h .read) ∙ d in
+        let same : h .text ≡ x = cc in
+        met-lent (is-reading (q .reading)) (ran .spells) ∙ ap some (ap (λ (m : Session). m .state) whole
+        ∙ left-empty (length entries) (length pool) cnf proof (h .read) (h .fills)
+        ∙ ap (λ (y : Cnf). opened (y .vars) (length entries) (length pool)) same)
+
+  -- the last part is told as the last: the answer is the definition's for the whole proof
+  module _ (l : last ≡ true) where
+    ended-all : ran .after ≡ finish (run (started s) (flatten parts))
+    ended-all = fed-all ∙ ap (λ b. ended b (run (started s) (flatten parts))) l
+
+    pub parts-are-the-whole : q .answer ≡ lrat (length entries) (length pool) cnf (flatten parts)
+    parts-are-the-whole = answers (flatten parts) ended-all
+
+    -- "opened empty and left so whatever the outcome"
+    pub parts-left-empty : {x : Cnf} → read-text cnf ≡ sound x →
+        state-lent entries′ pool′ (q .carried) ≡ some (opened (x .vars) (length entries) (length pool))
+    parts-left-empty = empties (flatten parts) ended-all
+
+  -- the answer is known before the last part: it is that of every proof that begins with the parts, and the tables are empty already
+  module _ (l : last ≡ false) (o : q .reading .reader .over ≡ true) (rest : List ℕ) where
+    over-early : ran .after ≡ finish (run (started s) (flatten parts ++ rest))
+    over-early =
+        let here = fed-all ∙ ap (λ b. ended b (run (started s) (flatten parts))) l in
+        let over = sym (ap (λ (m : Session). m .over) (ran .reads)) ∙ o in
+        over-ended true (ran .after) rest over ∙ ap (λ m. finish (run m rest)) here ∙ ap finish (sym (run-on (started s) (flatten parts) rest))
+
+    pub known-early : q .answer ≡ lrat (length entries) (length pool) cnf (flatten parts ++ rest)
+    known-early = answers (flatten parts ++ rest) over-early
+
+    pub left-empty-early : {x : Cnf} → read-text cnf ≡ sound x →
+        state-lent entries′ pool′ (q .carried) ≡ some (opened (x .vars) (length entries) (length pool))
+    left-empty-early = empties (flatten parts ++ rest) over-early

@@ -102,7 +102,7 @@ read-further t rows pool stack r part last f {rows₁} {pool₁} lits₁ plus₁
 -- ---- the rows taken in
 
 -- nothing is read once the answer is known
-over-ended : (last : Bool) (m : Session) (part : List ℕ) → m .over ≡ true → m ≡ ended last (run m part)
+pub over-ended : (last : Bool) (m : Session) (part : List ℕ) → m .over ≡ true → m ≡ ended last (run m part)
 unfolding finish
 over-ended true m part o = sym (ap finish (over-stays part m o) ∙ ap (λ b. cond b m (decided (end-line m))) o)
 over-ended false m part o = sym (over-stays part m o)
