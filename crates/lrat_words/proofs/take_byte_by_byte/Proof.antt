@@ -6,8 +6,8 @@ use lib.ListN.{length}
 use borrow.Author.Needs.{needs}
 use Rattle.lrat_words.specs.Taken.{Pushed}
 use Rattle.lrat_words.proofs.Pushing.{pushed-none, pushed-more}
-use Rattle.lrat_words.proofs.take_bytes.Statement.{statement}
-use Rattle.lrat_words.proofs.take_bytes.Tie as tie
+use Rattle.lrat_words.proofs.take_byte_by_byte.Statement.{statement}
+use Rattle.lrat_words.proofs.take_byte_by_byte.Tie as tie
 
 abbrev Inv-loop : tie.InvT-loop
 Inv-loop part from i₀ word₀ i word = Pushed part from word₀ i word
@@ -21,8 +21,8 @@ loop-again c =
     let x = b .before .before in
     pushed-more (x .before .loop .inv) (x .loop-test .taken) (sym (b .is-blank .ensures) ∙ c .before .if1 .left) (c .push .ensures)
 
-pub take-bytes-spec : {M : Type 1} → statement M
-take-bytes-spec =
+pub take-byte-by-byte-spec : {M : Type 1} → statement M
+take-byte-by-byte-spec =
     tie.close
     (tie.spec
     Inv-loop
