@@ -10,10 +10,10 @@ use Rattle.rules.proofs.Lists.{by-cases, not-true, all-head, all-tail}
 use Rattle.text.specs.Words.{is-blank, TextWord, ended-word, still-first, line-words}
 use Rattle.text.specs.Places.{goes-on}
 use Rattle.text_numbers.specs.Numbers.{is-decimal}
-use Rattle.lrat.specs.Machine.{between, is-word, push, Step, step, take-word, Session, word-taken, end-word, pushed, move, run}
+use Rattle.lrat.specs.Machine.{between, is-word, push, pushes, Step, step, take-word, Session, word-taken, end-word, pushed, move, run}
 use Rattle.lrat.specs.declared.LineWord.{LineWord}
 use Rattle.lrat.specs.declared.ProofWord.{ProofWord}
-use Rattle.lrat.proofs.Heard.{heard, pushes, pushes-last, spoken}
+use Rattle.lrat.proofs.Heard.{heard, pushes-last, spoken}
 
 -- ---- words taken
 

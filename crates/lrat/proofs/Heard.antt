@@ -13,7 +13,7 @@ use Rattle.rules.proofs.Lists.{by-cases, true-false}
 use Rattle.text_numbers.specs.Numbers.{is-decimal, said-on, natural-of, minus-of, integer-of}
 use Rattle.text_numbers.proofs.Saying.{decimal-bounds}
 use Rattle.lrat.specs.Lines.{is-d}
-use Rattle.lrat.specs.Machine.{word, grown, begin, is-word, push, said}
+use Rattle.lrat.specs.Machine.{word, grown, begin, is-word, push, pushes, said}
 use Rattle.lrat.specs.declared.LineWord.{LineWord}
 use Rattle.lrat.specs.declared.LineWord.the-variants.{Number, Deletion, Other}
 use Rattle.lrat.specs.declared.ProofWord.{ProofWord}
@@ -36,10 +36,6 @@ abbrev pub heard : List ℕ → LineWord
 heard w = heard-as (integer-of w) (is-d w)
 
 -- ---- byte by byte
-
-unfoldable pub pushes : ProofWord → List ℕ → ProofWord
-pushes w [] = w
-pushes w (b ∷ bs) = pushes (push w b) bs
 
 pub pushes-last : (xs : List ℕ) (w : ProofWord) (b : ℕ) → pushes w (xs ++ (b ∷ [])) ≡ push (pushes w xs) b
 unfolding pushes

@@ -14,12 +14,11 @@ use Rattle.text.specs.Places.{goes-on}
 use Rattle.lrat.specs.Lines.{Line, malformed, addition, deletion, proof-lines, words-in, read-line}
 use Rattle.lrat.specs.Checking.{gone, all-gone, check-line, next-line, is-empty-clause, answer, one-more, by-line, check-lines, check-proof}
 use Rattle.lrat.specs.Machine.{at-start, is-word, said, step, Step, Session, emptied, started, word-taken, end-word, close-line, move, run}
-use Rattle.lrat.specs.Machine.{line-closed, unproved, decided, finish, told}
+use Rattle.lrat.specs.Machine.{pushes, line-closed, unproved, decided, finish, told}
 use Rattle.lrat.specs.declared.LratAnswer.{LratAnswer}
 use Rattle.lrat.proofs.Fed.{takes, heard-words, run-on, blank-moved, byte-moved, line-fed, begun-on}
 use Rattle.lrat.proofs.Onward.{Counted, gone-size, word-on, words-on}
 use Rattle.lrat.proofs.Lines.{LineRead, unread, words-line}
-use Rattle.lrat.proofs.Heard.{pushes}
 
 -- ---- in parts
 

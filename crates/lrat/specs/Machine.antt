@@ -52,6 +52,11 @@ is-word w = ltb 0 (w .kind) && ltb (w .kind) 5
 unfoldable pub push : ProofWord → ℕ → ProofWord
 push w b = cond (is-word w) (cond (ltb (w .kind) 3) (digit-or w b) (word 4 false 0)) (begin b)
 
+-- bytes of a word, one after the other
+unfoldable pub pushes : ProofWord → List ℕ → ProofWord
+pushes w [] = w
+pushes w (b ∷ bs) = pushes (push w b) bs
+
 -- what it is where it ends here; there is no -0
 unfoldable pub said : ProofWord → LineWord
 said w = cond (eqb (w .kind) 3) Deletion (cond (eqb (w .kind) 2 && not (w .minus && eqb (w .value) 0)) (Number (w .minus) (w .value)) Other)

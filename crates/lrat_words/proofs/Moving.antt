@@ -12,9 +12,9 @@ use Rattle.rules.specs.Lists.{all-pass}
 use Rattle.rules.proofs.Lists.{by-cases, true-false, not-true, from-index, all-head, all-tail}
 use Rattle.text.specs.Words.{is-blank}
 use Rattle.text.proofs.Slices.{slice-drop}
-use Rattle.lrat.specs.Machine.{Session, push, end-word, close-line, move, run}
+use Rattle.lrat.specs.Machine.{Session, push, pushes, end-word, close-line, move, run}
 use Rattle.lrat.specs.declared.ProofWord.{ProofWord}
-use Rattle.lrat_words.specs.Taken.{pushes, in-word, Pushed}
+use Rattle.lrat_words.specs.Taken.{in-word, Pushed}
 
 -- the same with another word on its way
 abbrev pub with-word : ProofWord → Session → Session

@@ -9,14 +9,10 @@ use lib.Seq.{slice, slice-empty}
 use Rattle.rules.proofs.Lists.{all-nil, all-cons, all-append}
 use Rattle.text.specs.Words.{is-blank}
 use Rattle.text.proofs.Slices.{slice-snoc}
-use Rattle.lrat.specs.Machine.{push}
+use Rattle.lrat.specs.Machine.{push, pushes}
 use Rattle.lrat.specs.declared.ProofWord.{ProofWord}
-use Rattle.lrat_words.specs.Taken.{pushes, in-word, Pushed}
-
-pub pushes-snoc : (w : ProofWord) (bs : List ℕ) (b : ℕ) → pushes w (bs ++ (b ∷ [])) ≡ push (pushes w bs) b
-unfolding pushes
-pushes-snoc w [] b = refl
-pushes-snoc w (x ∷ bs) b = pushes-snoc (push w x) bs b
+use Rattle.lrat.proofs.Heard.{pushes-last}
+use Rattle.lrat_words.specs.Taken.{in-word, Pushed}
 
 pub pushed-none : (part : List ℕ) (from : ℕ) (w : ProofWord) → from ≤ length part → Pushed part from w from w
 unfolding pushes
@@ -31,5 +27,5 @@ pushed-more {part} {from} {i} {w} p h n q =
       low = omega (arith, p .low);
       high = omega arith;
       no-blank = rw more (all-append in-word _ _ (p .no-blank) (all-cons in-word _ [] (rw n) (all-nil in-word)));
-      read = q ∙ ap (λ x. push x (getD part i 0)) (p .read) ∙ sym (pushes-snoc w _ _) ∙ rw more;
+      read = q ∙ ap (λ x. push x (getD part i 0)) (p .read) ∙ sym (pushes-last _ w _) ∙ rw more;
     }

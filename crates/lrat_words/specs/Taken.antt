@@ -1,20 +1,15 @@
 -- What is told of the bytes of a word, taken from a part of a proof.
 use mathlib.Core.Path.{_≡_}
 use mathlib.Core.Bool.{Bool, true, not}
-use mathlib.Core.List.{List, [], _∷_}
+use mathlib.Core.List.{List}
 use Prim.Native.Nat.{ℕ, _≤_, _<_}
 use lib.ListN.{length, getD}
 use lib.Seq.{slice}
 use Rattle.rules.specs.Lists.{all-pass}
 use Rattle.text.specs.Words.{is-blank}
-use Rattle.lrat.specs.Machine.{push}
+use Rattle.lrat.specs.Machine.{pushes}
 use Rattle.lrat.specs.declared.ProofWord.{ProofWord}
 use Rattle.lrat_words.specs.declared.WordTaken.{WordTaken}
-
--- bytes of a word, one after the other
-unfoldable pub pushes : ProofWord → List ℕ → ProofWord
-pushes w [] = w
-pushes w (b ∷ bs) = pushes (push w b) bs
 
 abbrev pub in-word : ℕ → Bool
 in-word b = not (is-blank b)

@@ -123,8 +123,8 @@ pub struct WordTaken {
     pub word: ProofWord,
 }
 
-// Takes bytes from `from` on until a blank, or the part's end.
-pub fn take_bytes(part: &[u8], from: usize, w: ProofWord) -> WordTaken
+// Byte by byte, whatever they say.
+fn take_byte_by_byte(part: &[u8], from: usize, w: ProofWord) -> WordTaken
     requires { ⌜ from ≤ length (now part) ⌝ }
     ensures { λ r. ⌜ TookWord (now (part .entry)) from w r ⌝ }
 {
@@ -139,6 +139,29 @@ pub fn take_bytes(part: &[u8], from: usize, w: ProofWord) -> WordTaken
         i += 1;
     }
     WordTaken { from: i, word }
+}
+
+// Takes bytes from `from` on until a blank, or the part's end. Most words are short numbers, which begin and end in the same part: these are read at once.
+pub fn take_bytes(part: &[u8], from: usize, w: ProofWord) -> WordTaken
+    requires { ⌜ from ≤ length (now part) ⌝ }
+    ensures { λ r. ⌜ TookWord (now (part .entry)) from w r ⌝ }
+{
+    if !is_word(w) {
+        if 8 <= part.len() - from {
+            let read = text_next::quick(part, from);
+            if read.number {
+                return WordTaken {
+                    from: read.end,
+                    word: ProofWord {
+                        kind: 2,
+                        minus: read.minus,
+                        value: read.value,
+                    },
+                };
+            }
+        }
+    }
+    take_byte_by_byte(part, from, w)
 }
 
 // ---- the end of a word
