@@ -28,8 +28,6 @@ use Rattle.lent_entries.proofs.Steps.{_&_, a-slice, copy-of, field-of, sets, la
 use Rattle.lent_entries.proofs.Values.{E, CD, carried-value}
 use Rattle.lent_entries.proofs.Walks.{typed, made-of, spelled, Value, struct-value, Params, keeps-slice, gives-slice, sets-ref, values, Passing, Walk-at, brought}
 use Rattle.lent_entries.proofs.Walks.{doubles, starts, ends, stands, asks}
-use Rattle.lrat.proofs.LratAnswer as TA
-use Rattle.lrat.proofs.LratAnswer.Laws as TA′
 use Rattle.call_lrat.specs.Checks.{Checks}
 use Rattle.call_lrat.proofs.LratCalled as TC
 use Rattle.call_lrat.proofs.LratCalled.Laws as TC′
@@ -41,13 +39,11 @@ use Rattle.library_proofs.proofs.numbers_of as num
 use Rattle.library_proofs.proofs.numbers_of.Symbol as num-def
 use Rattle.library_proofs.proofs.numbers_of.Met as num-thm
 use Rattle.library.proofs.Answering.{numbers-value}
+use Rattle.library.proofs.Proofs.{answer-value}
 use Rattle.library.proofs.zahrubel_lrat_check.Key as key
 use Rattle.library.proofs.zahrubel_lrat_check as f
 use Rattle.library.proofs.zahrubel_lrat_check.Statement as stated
 use Rattle.library.proofs.zahrubel_lrat_check.Code as code
-
-abbrev answer-value : Value TA.the-row
-answer-value = struct-value TA.the-type TA′.the-laws TA′.the-plain TA′.the-copy TA′.lowers
 
 abbrev called-value : Value TC.the-row
 called-value = struct-value TC.the-type TC′.the-laws TC′.the-plain TC′.the-copy TC′.lowers
