@@ -3,6 +3,7 @@ ghost use Prim.Native.Nat.{_+_};
 ghost use Rattle.lent_entries.specs.Lent.{clause-at, entry-at, witness-at};
 ghost use Rattle.library.specs.Exported.{OpenExported, StepExported, Names, GiveExported, EndExported};
 ghost use Rattle.library.specs.Texts.{JudgeExported, NextExported};
+ghost use Rattle.library.specs.Proofs.{CheckExported};
 use dimacs_frames::Cursor;
 use lent::Carried;
 use lent_entries::Entry;
@@ -140,4 +141,23 @@ pub extern "C" fn zahrubel_dimacs_next(
     let back = library_back::next_back(dimacs_frames::next(text, *cursor, frame), *cursor);
     *cursor = back.cursor;
     back.numbers
+}
+
+// ---- a second vendor's proofs
+
+// A proof against the rules of a text, whole, over lent tables of its own. What is carried is written back as the call hands it back.
+#[no_mangle]
+pub extern "C" fn zahrubel_lrat_check(
+    entries: &[Entry],
+    pool: &mut [i32],
+    carried: &mut Carried,
+    cnf: &[u8],
+    proof: &[u8],
+) -> Numbers
+    ensures { λ r. ⌜ CheckExported (now (entries .entry)) (now (pool .entry)) (now (carried .entry)) (now (cnf .entry)) (now (proof .entry)) r
+        (now (pool .exit)) (now (carried .exit)) ⌝ }
+{
+    let called = call_lrat::check(entries, pool, *carried, cnf, proof);
+    *carried = called.carried;
+    library_proofs::numbers_of(called.answer)
 }

@@ -5,7 +5,7 @@ ghost use Prim.Native.Nat.{_≤_};
 ghost use Rattle.rules.specs.Terms.{everything};
 ghost use Rattle.rules.specs.Propagation.{among, judge};
 ghost use Rattle.lit_sets.specs.Words.{set-of};
-ghost use Rattle.table.specs.Spelled.{Fit, Readable, spelled};
+ghost use Rattle.table.specs.Spelled.{Fit, Located, Readable, Rising, spelled};
 ghost use Rattle.judge_propagate.specs.Scope.{all-clauses, allowed-of};
 ghost use Rattle.lrat.specs.Machine as machine;
 ghost use Rattle.lrat.specs.Kept.{Keeps};
@@ -121,6 +121,21 @@ enum Looked {
     Bad,
 }
 
+// The row of an id. The clauses of the rules have the ids 1, 2, 3 and so on, so the first guess is the row of that number; the row's own id decides.
+fn find_row(rows: &[Row], id: u32) -> Found
+    requires { ⌜ Rising (now rows) ⌝ }
+    ensures { λ r. ⌜ Located (now (rows .entry)) id r ⌝ }
+{
+    let behind = id as usize;
+    if 0 < behind && behind <= rows.len() {
+        let k = behind - 1;
+        if table::id_at(rows, k) == id {
+            return Found::At(k);
+        }
+    }
+    table::find(rows, id)
+}
+
 // One hint, read by the clause that it names among the rows held.
 fn read_hint(
     rows: &[Row],
@@ -133,7 +148,7 @@ fn read_hint(
     ensures { λ r. ⌜ HintRead (judge (set-of (now (plus .entry)) (now (minus .entry))) (allowed-of all-clauses (now (pool .entry)) (now (rows .entry)) id))
         (set-of (now (plus .entry)) (now (minus .entry))) r (set-of (now (plus .exit)) (now (minus .exit))) ⌝ }
 {
-    let Found::At(k) = table::find(rows, id) else {
+    let Found::At(k) = find_row(rows, id) else {
         return Looked::Bad;
     };
     if 2 < table::place_at(rows, k) {

@@ -1,17 +1,11 @@
+use mathlib.Core.Path.{refl}
 use borrow.Author.Needs.{needs}
 use Rattle.call_lrat.proofs.emptied.Statement.{statement}
 use Rattle.call_lrat.proofs.emptied.Tie as tie
-use Rattle.call_lrat.proofs.emptied.Reads as reads
-use Rattle.call_lrat.proofs.emptied.Lts as lts
-use Rattle.lent_open.proofs.open_sized.Reads as open-sized-reads
-
--- src/lib.rt:77:9
-open-sized-requires : tie.Need-open-sized-requires
-open-sized-requires c κs = search needs
-
--- src/lib.rt:74:1
-returns : tie.Need-returns
-returns c = ?
 
 pub emptied-spec : {M : Type 1} → statement M
-emptied-spec = tie.close (tie.spec open-sized-requires returns)
+emptied-spec =
+    tie.close
+    (tie.spec
+    (λ c κs. search needs)  -- open-sized-requires
+    (λ c. rw (c .before .open-sized .ensures) refl))  -- returns

@@ -33,7 +33,7 @@ abbrev μ-loop : tie.MeasureT-loop
 μ-loop rows pool id plus minus k c open₀ i₀ «open» i = length c - i
 
 -- what was found
-module _ (x : tie.After-find Inv-loop μ-loop) where
+module _ (x : tie.After-find-row Inv-loop μ-loop) where
   abbrev s : tie.Start Inv-loop μ-loop
   s = x .before
 
@@ -43,12 +43,12 @@ module _ (x : tie.After-find Inv-loop μ-loop) where
   abbrev looked : Looked
   looked = judge F (allowed-of all-clauses (s .args .pool .now) (s .args .rows .now) (s .args .id))
 
-  located : {f : Found} → x .find .result ≡ f → Located (s .args .rows .now) (s .args .id) f
-  located e = subst (Located (s .args .rows .now) (s .args .id)) e (x .find .ensures)
+  located : {f : Found} → x .find-row .result ≡ f → Located (s .args .rows .now) (s .args .id) f
+  located e = subst (Located (s .args .rows .now) (s .args .id)) e (x .find-row .ensures)
 
 -- it was found in row k
 module _ (x : tie.After-known-told Inv-loop μ-loop) where
-  abbrev found : tie.After-find Inv-loop μ-loop
+  abbrev found : tie.After-find-row Inv-loop μ-loop
   found = x .before .before .before
 
   abbrev k : ℕ
@@ -62,7 +62,7 @@ module _ (x : tie.After-clause-of Inv-loop μ-loop) where
   abbrev told : tie.After-known-told Inv-loop μ-loop
   told = x .before .before .before
 
-  abbrev of : tie.After-find Inv-loop μ-loop
+  abbrev of : tie.After-find-row Inv-loop μ-loop
   of = found told
 
   abbrev lits : List ℤ
@@ -173,7 +173,7 @@ read-hint-spec =
     (tie.spec
     Inv-loop
     μ-loop
-    (λ c κs. c .pre .rising)  -- find-requires
+    (λ c κs. c .pre .rising)  -- find-row-requires
     (λ c. search needs)  -- enum-known-k
     (λ c. search needs)  -- enum-told
     returns
