@@ -154,7 +154,16 @@ fn read_on(
     let mut plus = r.plus;
     let mut minus = r.minus;
     let fed = feed_part(
-        part, last, rows, pool, &stack, t, before, &mut lits, &mut plus, &mut minus,
+        part,
+        last,
+        rows,
+        pool,
+        &stack,
+        t,
+        before,
+        &mut lits,
+        &mut plus,
+        &mut minus,
     );
     let table = fed.table;
     let whole = table_room::squeeze(rows, pool, &stack, table);

@@ -32,9 +32,11 @@ returns-2 c =
 
 run-part-requires : tie.Need-run-part-requires
 run-part-requires c κs =
-    let x = c .before .before in
-    (s x .pre, sym (x .before .before .before .in-sizes .ensures) ∙ not-false (x .before .before .if1 .left),
-    sym (x .before .is-reading .ensures) ∙ not-false (x .if2 .left))
+    let x = c .before .before in (
+      s x .pre,
+      sym (x .before .before .before .in-sizes .ensures) ∙ not-false (x .before .before .if1 .left),
+      sym (x .before .is-reading .ensures) ∙ not-false (x .if2 .left),
+    )
 
 returns-3 : tie.Need-returns-3
 returns-3 c =

@@ -50,8 +50,11 @@ returns-3 : tie.Need-returns-3
 returns-3 c =
     let x = c .before .before .before .before in
     let a = s x .args .r in
-    rw (counted x, ranged-in 2048 0 (take (a .reader .line .count) (a .lits)) (omega arith) (sym (c .before .before .before .ranged .ensures)
-    ∙ c .before .enum-told .given .1)) refl
+    rw (
+      counted x,
+      ranged-in 2048 0 (take (a .reader .line .count) (a .lits)) (omega arith) (sym (c .before .before .before .ranged .ensures)
+          ∙ c .before .enum-told .given .1),
+    ) refl
 
 pub is-reading-spec : {M : Type 1} → statement M
 is-reading-spec =
