@@ -1,7 +1,7 @@
 -- The answer is the same wherever the proof is cut, and by whichever call: it is the definition's for the two texts. And the tables are then empty.
 use mathlib.Core.Path.{_≡_, refl, sym, ap, subst, _∙_}
 use mathlib.Core.Bool.{Bool, true, false, cond}
-use mathlib.Core.List.{List, [], _∷_, _++_, flatten}
+use mathlib.Core.List.{List, [], _++_, flatten}
 use mathlib.Core.Option.{Option, none, some}
 use Prim.Native.Nat.{ℕ}
 use native.Mathlib.Omega.{arith}
@@ -23,7 +23,7 @@ use Rattle.lrat.proofs.Sound.{NoModel, no-model}
 use Rattle.lrat.proofs.Whole.{small, run-is-lrat, left-empty}
 use Rattle.call_lrat.specs.Checks.{Checks}
 use Rattle.call_lrat.specs.declared.LratCalled.{LratCalled}
-use Rattle.call_lrat_parts.specs.Parts.{is-reading, met, session, Rules, unopened, no-room, holding, by-room, by-text, rules-of, LratOpens}
+use Rattle.call_lrat_parts.specs.Parts.{is-reading, met, session, unopened, no-room, holding, by-room, by-text, rules-of, LratOpens}
 use Rattle.call_lrat_parts.specs.Parts.{ended, answer-so-far}
 use Rattle.call_lrat_parts.specs.Chains.{Gives, one-part, then-parts, ChecksInParts}
 use Rattle.call_lrat_parts.specs.declared.ProofReading.{ProofReading}

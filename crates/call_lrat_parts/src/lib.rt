@@ -1,5 +1,5 @@
-// A proof checked in parts over lent tables of its own, so that one of any length needs a fixed amount of memory: opened with the rules of a text, given part by
-// part, and left empty once its answer is known. Any bits may be handed in.
+// A proof checked in parts over lent tables of its own, so that one of any length needs a fixed amount of memory: opened with the rules of a text, given part
+// by part, and left empty once its answer is known. Any bits may be handed in.
 ghost use mathlib.Core.Path.{_≡_};
 ghost use mathlib.Core.Bool.{true};
 ghost use lib.ListN.{length};
