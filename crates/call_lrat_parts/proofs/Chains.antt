@@ -1,7 +1,7 @@
 -- The answer is the same wherever the proof is cut, and by whichever call: it is the definition's for the two texts. And the tables are then empty.
 use mathlib.Core.Path.{_≡_, refl, sym, ap, subst, _∙_}
 use mathlib.Core.Bool.{Bool, true, false, cond}
-use mathlib.Core.List.{List, [], _∷_, _++_, flatten}
+use mathlib.Core.List.{List, [], _++_, flatten}
 use mathlib.Core.Option.{Option, none, some}
 use Prim.Native.Nat.{ℕ}
 use native.Mathlib.Omega.{arith}
@@ -19,8 +19,11 @@ use Rattle.lrat.specs.Machine.{Session, started, run, finish, told}
 use Rattle.lrat.specs.declared.LratAnswer.{LratAnswer}
 use Rattle.lrat.proofs.Fed.{run-on}
 use Rattle.lrat.proofs.Runs.{finish-over}
+use Rattle.lrat.proofs.Sound.{NoModel, no-model}
 use Rattle.lrat.proofs.Whole.{small, run-is-lrat, left-empty}
-use Rattle.call_lrat_parts.specs.Parts.{is-reading, met, session, Rules, unopened, no-room, holding, by-room, by-text, rules-of, LratOpens}
+use Rattle.call_lrat.specs.Checks.{Checks}
+use Rattle.call_lrat.specs.declared.LratCalled.{LratCalled}
+use Rattle.call_lrat_parts.specs.Parts.{is-reading, met, session, unopened, no-room, holding, by-room, by-text, rules-of, LratOpens}
 use Rattle.call_lrat_parts.specs.Parts.{ended, answer-so-far}
 use Rattle.call_lrat_parts.specs.Chains.{Gives, one-part, then-parts, ChecksInParts}
 use Rattle.call_lrat_parts.specs.declared.ProofReading.{ProofReading}
@@ -159,6 +162,16 @@ module _ {entries : List Entry} {pool : List ℤ} {c : Carried} {r : ProofReadin
 
     pub parts-are-the-whole : q .answer ≡ lrat (length entries) (length pool) cnf (flatten parts)
     parts-are-the-whole = answers (flatten parts) ended-all
+
+    -- so it is what the call that checks a proof whole answers, over any tables as large
+    pub same-by-either-call : {tables : List Entry} {words : List ℤ} {d : Carried} {p : LratCalled} {words′ : List ℤ} →
+        Checks tables words d cnf (flatten parts) p words′ → length tables ≡ length entries → length words ≡ length pool → p .answer ≡ q .answer
+    same-by-either-call w a b = w .answered ∙ rw (a, b) (sym parts-are-the-whole)
+
+    -- "An accepted file means that the CNF has no model."
+    pub accepted-has-no-model : q .answer .code ≡ 0 → NoModel (read-text cnf)
+    accepted-has-no-model z =
+        no-model (length entries) (length pool) cnf (flatten parts) (ap (λ (a : LratAnswer). a .code) (sym parts-are-the-whole) ∙ z)
 
     -- "opened empty and left so whatever the outcome"
     pub parts-left-empty : {x : Cnf} → read-text cnf ≡ sound x →

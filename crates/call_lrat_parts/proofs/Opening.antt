@@ -1,5 +1,5 @@
 -- From the rules of a text in a working table to the rows, and from the rows put back to what opening promises of what is lent.
-use mathlib.Core.Path.{_≡_, refl, sym, ap, _∙_}
+use mathlib.Core.Path.{_≡_, refl, ap, _∙_}
 use mathlib.Core.Bool.{true, false}
 use mathlib.Core.List.{List, map}
 use mathlib.Core.Option.{some}
@@ -27,12 +27,12 @@ use Rattle.lent_entries.specs.Lent.{entry-of, row-of}
 use Rattle.lent_entries.specs.declared.Entry.{Entry}
 use Rattle.lent_open.specs.Opened.{opened-with}
 use Rattle.lent_open.proofs.Opened.{opens}
-use Rattle.lrat.specs.Checking.{answer, fill, filled, opened-for}
+use Rattle.lrat.specs.Checking.{answer, opened-for}
 use Rattle.lrat.specs.Machine.{started}
 use Rattle.lrat.proofs.Whole.{filled-size}
 use Rattle.lrat_fill.specs.Filling.{Fills}
 use Rattle.lrat_fill.specs.declared.FilledText.the-variants.{Faulty, Full, Working}
-use Rattle.call_lrat_parts.specs.Parts.{is-reading, met, session, refused, Rules, unopened, no-room, holding, by-text, rules-of, LratOpens, LratOpening}
+use Rattle.call_lrat_parts.specs.Parts.{is-reading, met, session, Rules, unopened, no-room, holding, by-text, rules-of, LratOpens, LratOpening}
 use Rattle.call_lrat_parts.specs.Running.{proof-left, proof-stored, fresh-reading, OpensOn, OpenRun}
 use Rattle.call_lrat_parts.specs.declared.ProofReading.{ProofReading}
 use Rattle.call_lrat_parts.specs.declared.RanProof.{RanProof}

@@ -1,6 +1,6 @@
 -- Whether a proof is being read, as the code asks it.
-use mathlib.Core.Path.{_≡_, refl, sym, ap, _∙_}
-use mathlib.Core.Bool.{true, false, _&&_}
+use mathlib.Core.Path.{_≡_, refl}
+use mathlib.Core.Bool.{true, false}
 use mathlib.Core.List.{List, [], _∷_}
 use Prim.Native.Nat.{ℕ, _+_}
 use native.Mathlib.Omega.{arith}
@@ -8,7 +8,6 @@ use lib.IntN.{ℤ}
 use Rattle.rules.specs.Lists.{all-pass}
 use Rattle.rules.specs.Terms.{in-range}
 use Rattle.rules.specs.Answers.{need, _then_, ranged}
-use Rattle.rules.specs.declared.Check.{Check}
 use Rattle.rules.specs.declared.Check.the-variants.{Passed, Failed}
 use Rattle.rules.specs.declared.Fault.{Fault}
 use Rattle.rules.proofs.Lists.{by-cases}

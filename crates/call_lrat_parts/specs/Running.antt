@@ -16,7 +16,7 @@ use Rattle.lent.specs.Stored.{carried-of, Stores, PutsBack}
 use Rattle.lent.specs.declared.Carried.{Carried}
 use Rattle.lent_open.specs.Opened as opening
 use Rattle.lrat.specs.Checking.{answer}
-use Rattle.lrat.specs.Machine.{Session, started, run}
+use Rattle.lrat.specs.Machine.{Session, run}
 use Rattle.lrat.specs.declared.LratAnswer.{LratAnswer}
 use Rattle.lrat.specs.declared.ProofReader.{ProofReader}
 use Rattle.lrat_feed.specs.Feeding.{start-reader}

@@ -1,18 +1,16 @@
-// A proof checked in parts over lent tables of its own, so that one of any length needs a fixed amount of memory: opened with the rules of a text, given part by
-// part, and left empty once its answer is known. Any bits may be handed in.
+// A proof checked in parts over lent tables of its own, so that one of any length needs a fixed amount of memory: opened with the rules of a text, given part
+// by part, and left empty once its answer is known. Any bits may be handed in.
 ghost use mathlib.Core.Path.{_≡_};
 ghost use mathlib.Core.Bool.{true};
 ghost use lib.ListN.{length};
 ghost use Rattle.rules.specs.Answers.{lent, check-open};
 ghost use Rattle.table.specs.Spelled.{Fit, spelled};
-ghost use Rattle.dimacs.specs.Reading.{fault-numbers};
 ghost use Rattle.lent_open.specs.Opened.{opened-with};
 ghost use Rattle.lrat.specs.Checking.{answer};
 ghost use Rattle.lrat.specs.Machine.{run};
 ghost use Rattle.lrat_feed.specs.Feeding.{Feedable, Feeds, session-of};
 ghost use Rattle.call_lrat_parts.specs.Parts.{is-reading, ended, LratOpening, LratGiving};
 ghost use Rattle.call_lrat_parts.specs.Running.{proof-left, proof-stored, reader-answer, fresh-reading, ReadOn, RanOn, GiveRun, OpenRun};
-use dimacs::TextFault;
 use lent::Carried;
 use lent_entries::Entry;
 use lent_load::Loaded;
@@ -239,16 +237,6 @@ fn fresh() -> ProofReading
     }
 }
 
-// The number of a text's fault, and its byte.
-fn fault_answer(fault: TextFault) -> LratAnswer
-    ensures { λ r. ⌜ r ≡ answer (fault-numbers fault .0) (fault-numbers fault .1) ⌝ }
-{
-    LratAnswer {
-        code: dimacs_codes::code(fault),
-        detail: dimacs_codes::position(fault) as u64,
-    }
-}
-
 // The tables opened empty: there is no room for the rules.
 fn emptied(code: u32, vars: u32, n: usize, words: usize, r: ProofReading) -> RanProof
     ensures { λ q. ⌜ q ≡ proof-left (answer code 0) (opened-with vars (check-open vars n words) .carried) r ⌝ }
@@ -276,7 +264,7 @@ fn open_lent(
     let stack = [0u32; 1024];
     let filled = lrat_fill::fill(cnf, rows, pool, &stack, n as u32);
     match filled {
-        FilledText::Faulty(fault) => left(fault_answer(fault), c, r),
+        FilledText::Faulty(fault) => left(call_lrat::fault_answer(fault), c, r),
         FilledText::Full(code, vars) => emptied(code, vars, n, pool.len(), r),
         FilledText::Working(t) => {
             let whole = table_room::squeeze(rows, pool, &stack, t);

@@ -1,6 +1,6 @@
 -- `call_lrat_parts::give_lent` meets its contract.
 use mathlib.Core.Path.{_≡_, refl, sym, _∙_}
-use mathlib.Core.Bool.{true, false}
+use mathlib.Core.Bool.{true}
 use borrow.Author.Needs.{needs}
 use Rattle.rules.proofs.Lists.{and-both, not-true, not-false}
 use Rattle.call_lrat_parts.specs.Running.{give-sized}

@@ -1,6 +1,6 @@
--- `call_lrat_parts::open` meets its contract: a walk of its MIR, by hand, as that of `give` is. The locals: 1 to 5 the parameters, 6 the slot of the rows, 7 what
--- ran, 8 the rows as they are handed over, 9 and 10 the table lent, 11 its length, 12 and 13 the rows lent, 14 and 15 the pool, 16 what `put_back` returns, 17 and
--- 18 the table lent again. A comment lists what stands in front of the locals.
+-- `call_lrat_parts::open` meets its contract: a walk of its MIR, by hand, as that of `give` is. The locals: 1 to 5 the parameters, 6 the slot of the rows, 7
+-- what ran, 8 the rows as they are handed over, 9 and 10 the table lent, 11 its length, 12 and 13 the rows lent, 14 and 15 the pool, 16 what `put_back`
+-- returns, 17 and 18 the table lent again. A comment lists what stands in front of the locals.
 use mathlib.Core.Path.{refl, _∙_}
 use mathlib.Core.List.{[], _∷_, List}
 use Prim.Native.Nat.{ℕ}

@@ -1,7 +1,7 @@
 -- `call_lrat_parts::open_lent` meets its contract: each way out cites its law in Opening.
-use mathlib.Core.Path.{_≡_, sym, ap, subst, _∙_}
+use mathlib.Core.Path.{_≡_, sym, subst, _∙_}
 use mathlib.Core.Bool.{true}
-use Prim.Native.Nat.{ℕ, _≤_}
+use Prim.Native.Nat.{_≤_}
 use native.Mathlib.Omega.{arith}
 use lib.ListN.{length, replicate}
 use borrow.Author.Needs.{needs}
@@ -9,10 +9,8 @@ use Rattle.rules.specs.Answers.{lent}
 use Rattle.rules.proofs.Lists.{not-true, not-false}
 use Rattle.dimacs.specs.Reading.{read-text}
 use Rattle.lent.proofs.Sizes.{lent-most}
-use Rattle.lrat.specs.declared.LratAnswer.{LratAnswer}
 use Rattle.lrat_fill.specs.Filling.{Fills}
 use Rattle.lrat_fill.specs.declared.FilledText.{FilledText}
-use Rattle.call_lrat_parts.specs.Running.{proof-left}
 use Rattle.call_lrat_parts.proofs.Opening.{unlent, faulted, no-room-left, held-fits, held}
 use Rattle.call_lrat_parts.proofs.open_lent.Statement.{statement}
 use Rattle.call_lrat_parts.proofs.open_lent.Tie as tie
@@ -41,12 +39,17 @@ module _ (x : tie.After-fill) where
       subst (λ d. Fills (s y .args .n) (read-text (s y .args .cnf .now)) d (x .fill .last .1 .0) (s y .args .pool .now) (x .fill .last .1 .1 .0)
       (replicate 1024 0)) e (x .fill .ensures)
 
+-- before the rows that are gone were taken out
+abbrev into : tie.After-stored → tie.After-fill
+into x = x .before .before .before .before .before .before .before .before .before .before .before .before
+
 -- ---- needs
 
 returns : tie.Need-returns
 returns c =
     let a = c .before .before .before .before .args in
-    rw (c .unmet .ensures) (unlent (a .n) (a .pool .now) (a .c) (a .r) (a .cnf .now) (sym (c .before .before .in-sizes .ensures) ∙ not-true (c .before .if1 .taken)))
+    rw (c .unmet .ensures) (unlent (a .n) (a .pool .now) (a .c) (a .r) (a .cnf .now)
+    (sym (c .before .before .in-sizes .ensures) ∙ not-true (c .before .if1 .taken)))
 
 fill-requires : tie.Need-fill-requires
 fill-requires c κs =
@@ -85,11 +88,11 @@ returns-3 c =
     (filled-as f _ (known .1)))
 
 same-length-5 : tie.Need-same-length-5
-same-length-5 c = c .before .before .before .squeeze .ensures .long ∙ c .before .before .before .before .before .before .before .before .before .before .before .before .fill .kept .1 .0
+same-length-5 c = c .before .before .before .squeeze .ensures .long ∙ into c .fill .kept .1 .0
 
 returns-4 : tie.Need-returns-4
 returns-4 c =
-    let f = c .before .before .before .before .before .before .before .before .before .before .before .before in
+    let f = into c in
     let a = s (y f) .args in
     let known = c .before .before .before .before .before .before .before .before .filled3 .given in
     let q = c .before .before .before .squeeze .ensures in
@@ -122,5 +125,5 @@ open-lent-spec =
     (λ c. search needs) (λ c. search needs)  -- same-length-3, same-length-4
     returns-3
     same-length-5
-    (λ c. c .before .before .before .before .before .before .before .before .before .before .before .before .fill .kept .1 .1 .0)  -- same-length-6
+    (λ c. into c .fill .kept .1 .1 .0)  -- same-length-6
     returns-4)

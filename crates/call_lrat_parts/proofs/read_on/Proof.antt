@@ -6,24 +6,35 @@ use Rattle.call_lrat_parts.proofs.Running.{read-asks, read-further}
 use Rattle.call_lrat_parts.proofs.read_on.Statement.{statement}
 use Rattle.call_lrat_parts.proofs.read_on.Tie as tie
 
+-- before the part was fed, and after it
+abbrev begun : tie.After-minus2 → tie.Start
+begun x = x .before .before .before .before .before .before .before .before .before .before .before
+
+abbrev fed : tie.After-stack2 → tie.After-feed-part
+fed x = x .before .before .before .before .before .before .before
+
+abbrev squeezed : tie.After-stored → tie.After-squeeze
+squeezed x = x .before .before .before .before
+
 long : (s : tie.Start) → length (s .args .r .lits) ≡ 256
 long s = search (needs, s .good .1 .1 .1 .1 .0)
 
 feed-part-requires : tie.Need-feed-part-requires
 feed-part-requires c κs =
-    let s = c .before .before .before .before .before .before .before .before .before .before .before in
+    let s = begun c in
     read-asks (s .args .r) (s .pre .0) (s .pre .1) (long s)
 
 slice-aggregate-squeeze : tie.Need-slice-aggregate-squeeze
-slice-aggregate-squeeze c = search (needs, c .before .before .before .before .before .before .before .before .before .before .before .before .before .before .before .before .before .before .before .good .1 .1 .0)
+slice-aggregate-squeeze c = search (needs, begun (fed c .before) .good .1 .1 .0)
 
 returns : tie.Need-returns
 returns c =
-    let f = c .before .before .before .before .before .before .before .before .before .before .before .before in
-    let a = f .before .before .before .before .before .before .before .before .before .before .before .before .args in
+    let u = squeezed c in
+    let f = fed (u .before) in
+    let a = begun (f .before) .args in
     rw (c .stored .ensures, c .before .answer-so-far .ensures)
     (read-further (a .t) (a .rows .now) (a .pool .now) (a .t3) (a .r) (a .part .now) (a .last) (f .feed-part .result) _ _ _ (f .feed-part .ensures)
-    (c .before .before .before .before .squeeze .ensures))
+    (u .squeeze .ensures))
 
 pub read-on-spec : {M : Type 1} → statement M
 read-on-spec =

@@ -1,5 +1,5 @@
 -- `call_lrat_parts::run_part` meets its contract: each way out cites its law in Running.
-use mathlib.Core.Path.{_≡_, sym, _∙_}
+use mathlib.Core.Path.{sym, _∙_}
 use mathlib.Core.List.{List, _++_}
 use Prim.Native.Nat.{_≤_}
 use native.Mathlib.Omega.{arith}
@@ -47,6 +47,10 @@ module _ (x : tie.After-known-told) where
   working : Loads (s l .args .c) (take (s l .args .n) (s l .args .rows .now)) (s l .args .pool .now) (Working t) rows₁
   working = loaded l .working t (x .before .t .given .1)
 
+-- before it was read on
+abbrev further : tie.After-pool → tie.After-known-told
+further x = x .before .before .before .before .before .before .before .before
+
 -- ---- needs
 
 slice-aggregate-load : tie.Need-slice-aggregate-load
@@ -76,14 +80,14 @@ read-on-requires : tie.Need-read-on-requires
 read-on-requires c κs = let k = c .before .before .before .before .before in (working k .1, s (l k) .pre .2)
 
 same-length-5 : tie.Need-same-length-5
-same-length-5 c = c .before .before .read-on .kept .0 ∙ loaded (l (c .before .before .before .before .before .before .before .before)) .all-long
+same-length-5 c = c .before .before .read-on .kept .0 ∙ loaded (l (further c)) .all-long
 
 returns-3 : tie.Need-returns-3
 returns-3 c =
-    let k = c .before .before .before .before .before .before .before .before in
+    let k = further c in
     let a = s (l k) .args in
-    ran-further (a .n) (a .rows .now) (a .pool .now) (a .c) (a .r) (a .part .now) (a .last) (working k) (c .before .before .before .before .before .before .if1 .left)
-    (loaded (l k) .own-long) _ (c .before .before .read-on .ensures)
+    ran-further (a .n) (a .rows .now) (a .pool .now) (a .c) (a .r) (a .part .now) (a .last) (working k)
+    (c .before .before .before .before .before .before .if1 .left) (loaded (l k) .own-long) _ (c .before .before .read-on .ensures)
 
 pub run-part-spec : {M : Type 1} → statement M
 run-part-spec =
