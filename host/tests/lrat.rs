@@ -1,32 +1,16 @@
 //! Tens of thousands of pairs of rules and proof through the archive, each compared with the second
-//! implementation: the answer, and what is left in tables that had any bits before. A proof is given
-//! whole, and in parts that are cut anywhere.
+//! implementation: the answer, and what is left in tables that had any bits before.
 
 mod proofs;
 
-use proofs::{any_tables, Whole};
-use second::proofs::run::{run, ChecksProofs};
-use second::proofs::{large, NUMBERS};
+use proofs::{any_tables, compare, Whole};
+use second::proofs::large;
 use second::random::Random;
 use zahrubel::lrat::{check, check_in};
 use zahrubel::{Answer, Code, Frame, Refused, Session};
 
-/// So many seeds have every byte in every place, and every two faults of a line in every order.
-const SEEDS: u64 = 1_024;
-
 const RULES: &[u8] = b"p cnf 2 4\n1 2 0\n1 -2 0\n-1 2 0\n-1 -2 0\n";
 const PROOF: &[u8] = b"5 1 0 1 2 0\n5 d 1 2 0\n6 0 5 3 4 0\n";
-
-fn compare(checks: &mut dyn ChecksProofs) {
-    let tally = match run(checks, 0..SEEDS) {
-        Ok(tally) => tally,
-        Err(difference) => panic!("{difference}"),
-    };
-    assert!(tally.pairs() > 20_000, "{tally}");
-    for number in NUMBERS {
-        assert!(tally.all(number) > 100, "{number} is rare\n{tally}");
-    }
-}
 
 #[test]
 fn the_archive_and_the_second_check_the_same_proofs_alike() {

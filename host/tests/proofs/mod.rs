@@ -1,6 +1,8 @@
 //! Proofs checked through the archive, with an eye on every word that is lent.
+#![allow(dead_code)] // no test needs all of it
 
-use second::proofs::run::ChecksProofs;
+use second::proofs::run::{run, ChecksProofs};
+use second::proofs::NUMBERS;
 use second::random::Random;
 use zahrubel::lrat::check_in;
 use zahrubel::{Answer, Carried, Entry, Tables, MOST_ENTRIES};
@@ -64,5 +66,20 @@ impl ChecksProofs for Whole {
             assert_eq!(*tables.carried, opened_empty(rules), "{answer}");
         }
         (answer.code, answer.detail)
+    }
+}
+
+/// So many seeds have every byte in every place, and every two faults of a line in every order.
+const SEEDS: u64 = 1_024;
+
+/// Each number comes many times, and no answer differs.
+pub fn compare(checks: &mut dyn ChecksProofs) {
+    let tally = match run(checks, 0..SEEDS) {
+        Ok(tally) => tally,
+        Err(difference) => panic!("{difference}"),
+    };
+    assert!(tally.pairs() > 20_000, "{tally}");
+    for number in NUMBERS {
+        assert!(tally.all(number) > 100, "{number} is rare\n{tally}");
     }
 }
