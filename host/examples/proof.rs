@@ -1,5 +1,5 @@
-//! A second vendor's word that rules have no model, checked: a proof that a solver wrote is read from
-//! its file whole, and in parts as somebody hands it on; and one that lacks a line is refused.
+//! A second vendor's word that rules have no model, checked: a solver's proof is read from its file
+//! whole, and in parts as somebody hands it on; and one that lacks a line is refused.
 
 use std::error::Error;
 use std::fs::{self, File};

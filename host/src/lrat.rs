@@ -104,8 +104,9 @@ impl Default for Proof {
     }
 }
 
-/// The call that opens tables for a proof in parts: they hold the rules then, and nothing of a proof
-/// is read. Without room for the rules they are opened empty; by any other refusal nothing is written.
+/// The call that opens tables for a proof in parts: they hold the rules then, and nothing of a
+/// proof is read. Without room for the rules they are opened empty; by any other refusal nothing is
+/// written.
 #[cfg(feature = "parts")]
 pub fn open_in(
     entries: &mut [Entry],
@@ -130,8 +131,8 @@ pub fn open_in(
 }
 
 /// The call that gives a part of a proof, the last one or not. Accepted is a part where nothing is
-/// refused so far, and the proof where `over` says so. Once it is over every call tells the same and
-/// writes nothing.
+/// refused so far, and the proof where `over` says so. Once it is over every call tells the same
+/// and writes nothing.
 #[cfg(feature = "parts")]
 pub fn give_in(
     entries: &mut [Entry],
