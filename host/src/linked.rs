@@ -1,7 +1,6 @@
 //! The archive's functions, as `include/zahrubel.h` declares them.
 
 use crate::dimacs::{Cnf, Cursor};
-#[cfg(feature = "parts")]
 use crate::lrat::Proof;
 use crate::{Answer, Carried, Entry, Given, Reader};
 
@@ -95,7 +94,6 @@ extern "C" {
         proof_bytes: usize,
     ) -> Answer;
 
-    #[cfg(feature = "parts")]
     pub fn zahrubel_lrat_open(
         entries: *mut Entry,
         entry_count: usize,
@@ -107,7 +105,6 @@ extern "C" {
         cnf_bytes: usize,
     ) -> Answer;
 
-    #[cfg(feature = "parts")]
     pub fn zahrubel_lrat_give(
         entries: *mut Entry,
         entry_count: usize,

@@ -107,7 +107,6 @@ impl Default for Proof {
 /// The call that opens tables for a proof in parts: they hold the rules then, and nothing of a
 /// proof is read. Without room for the rules they are opened empty; by any other refusal nothing is
 /// written.
-#[cfg(feature = "parts")]
 pub fn open_in(
     entries: &mut [Entry],
     pool: &mut [i32],
@@ -133,7 +132,6 @@ pub fn open_in(
 /// The call that gives a part of a proof, the last one or not. Accepted is a part where nothing is
 /// refused so far, and the proof where `over` says so. Once it is over every call tells the same
 /// and writes nothing.
-#[cfg(feature = "parts")]
 pub fn give_in(
     entries: &mut [Entry],
     pool: &mut [i32],
@@ -173,14 +171,12 @@ pub fn give_in(
 /// # Ok(())
 /// # }
 /// ```
-#[cfg(feature = "parts")]
 #[derive(Clone, Debug)]
 pub struct Checking {
     tables: Tables,
     proof: Box<Proof>,
 }
 
-#[cfg(feature = "parts")]
 impl Checking {
     /// Opens tables of the largest size for the rules of a text, or hands back why not.
     pub fn of_rules(rules: &[u8]) -> Result<Checking, Refused> {

@@ -121,7 +121,6 @@ static void check_proof(const char *rules, const char *proof) {
     printf("proof %d %d, %d variables\n", (int)answer.code, (int)answer.detail, (int)carried.vars);
 }
 
-#ifdef PARTS
 /* The same in two parts: what is told after the first, and at the end. */
 static void check_parts(const char *rules, const char *first, const char *rest) {
     struct zahrubel_proof proof;
@@ -135,17 +134,14 @@ static void check_parts(const char *rules, const char *first, const char *rest) 
         printf("part %d %d, %s\n", (int)answer.code, (int)answer.detail, proof.over ? "over" : "more");
     }
 }
-#endif
 
 /* Rules without a model, and proofs of that. */
 static void by_proof(void) {
     const char *rules = "p cnf 2 4\n1 2 0\n1 -2 0\n-1 2 0\n-1 -2 0\n";
     check_proof(rules, "5 1 0 1 2 0\n5 d 1 2 0\n6 0 5 3 4 0\n");
     check_proof(rules, "5 1 0 1 2 0\n6 0 3 5 4 0\n");
-#ifdef PARTS
     check_parts(rules, "5 1 0 1 2 0\n5 d 1 2", " 0\n6 0 5 3 4 0\n");
     check_parts(rules, "5 1 0 1 2 0\n6 0 3 5 4 0\n", "");
-#endif
 }
 
 int main(void) {

@@ -37,14 +37,9 @@ fn c_answers_the_worked_example_and_reads_rules_and_proofs() {
         "part 37 2, over",
         "part 37 2, over",
     ];
-    let in_parts = if cfg!(feature = "parts") {
-        &in_parts[..]
-    } else {
-        &[]
-    };
     assert_eq!(
         lines,
-        [&by_frames[..], &by_lines, &by_text, &by_proof, in_parts].concat()
+        [&by_frames[..], &by_lines, &by_text, &by_proof, &in_parts].concat()
     );
 }
 

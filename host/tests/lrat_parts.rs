@@ -1,6 +1,5 @@
 //! The same pairs of rules and proof through the archive as in `lrat.rs`, the proofs in parts that
 //! are cut anywhere.
-#![cfg(feature = "parts")]
 
 mod proofs;
 

@@ -123,7 +123,6 @@ static void check_proof(void) {
     assert(answer.code == ZAHRUBEL_ACCEPTED);
 }
 
-#ifdef PARTS
 static struct zahrubel_proof reading;
 
 static void open_proof(void) {
@@ -137,7 +136,6 @@ static void give_proof(void) {
         zahrubel_lrat_give(entries, ZAHRUBEL_MOST_ENTRIES, pool, ZAHRUBEL_MOST_WORDS, &carried, &reading, (const uint8_t *)proof, strlen(proof), 1);
     assert(answer.code == ZAHRUBEL_ACCEPTED && reading.over);
 }
-#endif
 
 struct trial {
     const char *name;
@@ -178,9 +176,7 @@ int main(void) {
     const struct trial trials[] = {{"the first call", open_all}, {"open", open_all}, {"step", step_all}, {"open", open_all},
                                    {"give", give_all},           {"end", end_all},   {"reading", read_held},
                                    {"judging", judge_text},      {"frames", read_text}, {"a proof", check_proof},
-#ifdef PARTS
                                    {"rules of a proof", open_proof}, {"a proof in parts", give_proof},
-#endif
     };
     for (size_t i = 0; i < sizeof trials / sizeof trials[0]; i++)
         try(&trials[i]);

@@ -36,7 +36,6 @@ fn compiled_at(compiler: &str, source: &Path, name: &str) -> String {
     let flags = "-Wall -Wextra -Wpedantic -Werror -O1 -pthread";
     let mut command = split(compiler);
     command.extend(split(flags));
-    command.extend(cfg!(feature = "parts").then(|| "-DPARTS".to_string()));
     let include = Path::new(env!("CARGO_MANIFEST_DIR")).join("../include");
     let shown = |path: &Path| path.display().to_string();
     command.extend(["-I".to_string(), shown(&include), shown(source)]);
