@@ -1,8 +1,8 @@
 -- `call_lrat_parts::give` meets its contract: a walk of its MIR, by hand. All that it knows of `take_in`, `give_lent` and `put_back` is that each meets its
 -- contract. The table is lent as a `&` for the call of `take_in`, and comes back; the rows are lent as a `&mut` for the call of `give_lent`, and come back;
 -- then the table goes to `put_back` at its own lifetime, as the pool goes to `give_lent`, and each is given up for good. The locals: 1 to 6 the parameters, 7
--- the slot of the rows, 8 what ran, 9 the rows as they are handed over, 10 and 11 the table lent, 12 its length, 13 and 14 the rows lent, 15 and 16 the pool, 17 what
--- `put_back` returns, 18 and 19 the table lent again. A comment lists what stands in front of the locals.
+-- the slot of the rows, 8 what ran, 9 the rows as they are handed over, 10 and 11 the table lent, 12 its length, 13 and 14 the rows lent, 15 and 16 the pool,
+-- 17 what `put_back` returns, 18 and 19 the table lent again. A comment lists what stands in front of the locals.
 use mathlib.Core.Path.{refl, _∙_, subst}
 use mathlib.Core.Bool.{Bool}
 use mathlib.Core.List.{[], _∷_, List}
