@@ -120,8 +120,8 @@ module _ (n : ℕ) (pool : List ℤ) (c : Carried) (cnf proof : List ℕ) where
           rw v (emptied-called e (q ∙ sym (rw (t, e, k .fills .1) refl)) (l ∙ k .kept))
 
 -- the clauses are held
-pub working-fits : (n : ℕ) (rd : Read Cnf) (w : Table) (rows′ : List Row) (pool pool′ : List ℤ) (stack : List ℕ) → Fills n rd (Working w) rows′ pool pool′ stack →
-    Fit w rows′ pool′ stack
+pub working-fits : (n : ℕ) (rd : Read Cnf) (w : Table) (rows′ : List Row) (pool pool′ : List ℤ) (stack : List ℕ) →
+    Fills n rd (Working w) rows′ pool pool′ stack → Fit w rows′ pool′ stack
 working-fits n (faulty g) w rows′ pool pool′ stack k = let z : _≡_ {A = ℕ} 0 1 = cc in absurd (omega arith)
 working-fits n (sound x) w rows′ pool pool′ stack k = k .fills .0
 

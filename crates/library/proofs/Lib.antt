@@ -1,5 +1,5 @@
--- What the walks share (Answering, and Proofs for the calls on proofs), the one walk of the two calls that read a held clause (Held), what a refused part leaves and what a series of calls over a
--- text hands out (Theorems), and that any two outcomes agree (Agreement).
+-- What the walks share (Answering, and Proofs for the calls on proofs), the one walk of the two calls that read a held clause (Held), what a refused part
+-- leaves and what a series of calls over a text hands out (Theorems), and that any two outcomes agree (Agreement).
 pub mod Answering
 pub mod Proofs
 pub mod Held

@@ -106,8 +106,8 @@ one-more n = min (n + 1) 18446744073709551615
 abbrev pub by-line : ℕ → Bool → ℕ → LratAnswer → LratAnswer
 by-line code empty n more = cond (eqb code 0) (cond empty (answer 0 0) more) (answer code n)
 
--- "accept exactly when every line up to the first empty clause passes and one is reached"; n lines were read before. "so is an end without an empty clause, with
--- the number of lines". "Nothing after the first empty clause is read."
+-- "accept exactly when every line up to the first empty clause passes and one is reached"; n lines were read before. "so is an end without an empty clause,
+-- with the number of lines". "Nothing after the first empty clause is read."
 unfoldable pub check-lines : State → ℕ → List (List ℕ) → LratAnswer
 check-lines s n [] = answer 38 n
 check-lines s n (l ∷ ls) =

@@ -1,7 +1,7 @@
 // What the definitions of proof files and the code share.
 
-// A word of a line on its way. Its kind: 0 at the line's start, 1 a minus alone, 2 digits, 3 the letter d alone, 4 anything else, 5 between words. Behind a minus
-// or without, the digits say a number; what is above 2,147,483,647 names nothing, so numbers of 2^32 and above are told as that.
+// A word of a line on its way. Its kind: 0 at the line's start, 1 a minus alone, 2 digits, 3 the letter d alone, 4 anything else, 5 between words. Behind a
+// minus or without, the digits say a number; what is above 2,147,483,647 names nothing, so numbers of 2^32 and above are told as that.
 pub struct ProofWord {
     pub kind: u32,
     pub minus: bool,
@@ -15,8 +15,8 @@ pub enum LineWord {
     Other,
 }
 
-// What is read of a line. Its phase: 0 before its id, 1 behind it, 2 among its literals, 3 among its hints, 4 behind them, 5 among the ids of a deletion, 6 behind
-// them. The least number of refusal that was noted, 37 where none of 31 to 36 was; its id, 0 where that is none; how many literals are kept; and
+// What is read of a line. Its phase: 0 before its id, 1 behind it, 2 among its literals, 3 among its hints, 4 behind them, 5 among the ids of a deletion, 6
+// behind them. The least number of refusal that was noted, 37 where none of 31 to 36 was; its id, 0 where that is none; how many literals are kept; and
 // whether the hints go on (0), have proved the clause (1) or failed (2).
 pub struct ProofLine {
     pub phase: u32,

@@ -53,8 +53,9 @@ module _ {t : Table} {rows : List Row} {pool : List ℤ} {stack : List ℕ} (r :
   unfolding end-word
   word-ended e k =
       let on = word-on (spelled t rows pool stack) (reading (r .line) lits plus minus) (said (r .word)) in
+      let least = subst (λ (x : Step). 31 ≤ x .reading .line .noted) (sym (k .taken)) (on .least (f .noted)) in
       record {
-        feedable = record { fit = k .fit; keeps = k .keeps; noted = subst (λ (x : Step). 31 ≤ x .reading .line .noted) (sym (k .taken)) (on .least (f .noted)) };
+        feedable = record { fit = k .fit; keeps = k .keeps; noted = least };
         moved = rw e (ap (word-taken before) (k .taken));
       }
 

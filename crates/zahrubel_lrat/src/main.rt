@@ -1,5 +1,5 @@
-// The program behind `zahrubel lrat RULES PROOF`: a proof as LRAT text checked against rules as DIMACS text, and the verdict on standard output. Of a proof that
-// is refused, and of one that could not be read, no verdict is written.
+// The program behind `zahrubel lrat RULES PROOF`: a proof as LRAT text checked against rules as DIMACS text, and the verdict on standard output. Of a proof
+// that is refused, and of one that could not be read, no verdict is written.
 ghost use mathlib.Core.List.{[], _∷_, _++_};
 ghost use Prim.Native.Nat.{_≤_};
 ghost use lib.ListN.{length};

@@ -69,7 +69,8 @@ module _ {M : Type 1} (𝓤 : URA M) (H : Heap 𝓤) (A : Atoms 𝓤) (W : Given
       let cd-is = are .1 .1 .0 in
       let carried-made = made-of W carried-value cd cd-is in
       starts f.ended passed 𝓤 H A (f.clauses 𝓤 H A mem run) κs qs bounds a g W (𝓣 .C) (𝓣 .Λ) code.function
-      (a-slice fits-n & a-slice (spaceP .0) & typed W carried-value cd cd-is .0 & a-slice (are .1 .1 .1 .0 .0 .1 .0) & a-slice (are .1 .1 .1 .1 .0 .0 .1 .0) & tt)
+      (a-slice fits-n & a-slice (spaceP .0) & typed W carried-value cd cd-is .0 & a-slice (are .1 .1 .1 .0 .0 .1 .0) &
+      a-slice (are .1 .1 .1 .1 .0 .0 .1 .0) & tt)
       (λ l. drop ! $ split ! $ move ! (2 ∷ []) $ fparts ! 5 _ refl $
       move ! (4 ∷ []) $ doubles W (named 3) (κs .1 .1 .1 .0) u8 (a .1 .1 .1 .1 .0) $
       move ! (5 ∷ []) $ doubles W (named 2) (κs .1 .1 .0) u8 (a .1 .1 .1 .0) $ move ! (6 ∷ []) $ drop ! $
@@ -81,8 +82,8 @@ module _ {M : Type 1} (𝓤 : URA M) (H : Heap 𝓤) (A : Atoms 𝓤) (W : Given
       -- [what `check_lent` asks; text; proof; table; its token]
       (and-then ! (copy-of ! 5 refl) (and-then ! (copy-of ! 5 refl) (and-then ! (copy-of ! 5 refl) (and-then ! (copy-of ! 5 refl) (and-then ! (copy-of ! 5 refl)
       (no-more !)))))) (λ r z e r-is.
-      lands-in ! 6 refl (typed W called-value r r-is .0) $ move ! (1 ∷ []) $ fparts ! 5 _ refl $ move ! (0 ∷ 2 ∷ 3 ∷ 4 ∷ []) $ drop ! $ drop ! $ drop ! $ drop ! $
-      notes ! (λ lp.
+      lands-in ! 6 refl (typed W called-value r r-is .0) $ move ! (1 ∷ []) $ fparts ! 5 _ refl $ move ! (0 ∷ 2 ∷ 3 ∷ 4 ∷ []) $
+      drop ! $ drop ! $ drop ! $ drop ! $ notes ! (λ lp.
       -- [pool: what says its last list; the other tokens; text; proof; table; its token]
       returns ! (look ! 6 refl) $ frees ! 6 _ refl $ move ! (5 ∷ 1 ∷ []) $ join ! $ move ! (0 ∷ 4 ∷ 1 ∷ 2 ∷ 3 ∷ []) $
       ends f.ended passed 𝓤 H A (f.clauses 𝓤 H A mem run) κs qs bounds a g W called-value r (tt & z .1 .0 & tt & tt & tt & tt) (tt & lp & tt & tt & tt & tt)

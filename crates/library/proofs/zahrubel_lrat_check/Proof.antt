@@ -26,8 +26,8 @@ use Rattle.lent.specs.declared.Carried.{Carried}
 use Rattle.lent_entries.proofs.Behind.{opens-ref, closes-ref, behind-of, sets-behind}
 use Rattle.lent_entries.proofs.Steps.{_&_, a-slice, copy-of, field-of, sets, lands-in, lends, parts, fparts, notes, frees}
 use Rattle.lent_entries.proofs.Values.{E, CD, carried-value}
-use Rattle.lent_entries.proofs.Walks.{typed, made-of, spelled, Value, struct-value, Params, keeps-slice, gives-slice, sets-ref, values, Passing, Walk-at, brought}
-use Rattle.lent_entries.proofs.Walks.{doubles, starts, ends, stands, asks}
+use Rattle.lent_entries.proofs.Walks.{typed, made-of, spelled, Value, struct-value, Params, keeps-slice, gives-slice, sets-ref, values, Passing, Walk-at}
+use Rattle.lent_entries.proofs.Walks.{brought, doubles, starts, ends, stands, asks}
 use Rattle.call_lrat.specs.Checks.{Checks}
 use Rattle.call_lrat.proofs.LratCalled as TC
 use Rattle.call_lrat.proofs.LratCalled.Laws as TC′
@@ -80,8 +80,8 @@ module _ {M : Type 1} (𝓤 : URA M) (H : Heap 𝓤) (A : Atoms 𝓤) (W : Given
       lends ! 13 refl spaceP $ sets ! (of-opd ! (behind-of ! 13 0 refl refl)) 13 refl (typed W carried-value cd cd-is .0) $
       -- the lent slices and their tokens go to `check`
       nothing ! $ move ! (10 ∷ 11 ∷ 12 ∷ 13 ∷ 0 ∷ []) $ group ! 5 $ move ! (0 ∷ 7 ∷ 9 ∷ 5 ∷ 3 ∷ []) $
-      asks W check′.ended (check′.clauses 𝓤 H A mem run) (κs .0, (κs .1 .0, κs .1 .1 .1)) (qs .0, (qs .1 .0, qs .1 .1 .1)) tt (a .0, (a .1 .0, (cd, a .1 .1 .1)))
-      (vs .0, (vs .1 .0, (carried-value .val cd ∷ [], vs .1 .1 .1))) tt fm known-check called-value
+      asks W check′.ended (check′.clauses 𝓤 H A mem run) (κs .0, (κs .1 .0, κs .1 .1 .1)) (qs .0, (qs .1 .0, qs .1 .1 .1)) tt
+      (a .0, (a .1 .0, (cd, a .1 .1 .1))) (vs .0, (vs .1 .0, (carried-value .val cd ∷ [], vs .1 .1 .1))) tt fm known-check called-value
       (brought & brought & made-of W carried-value cd cd-is & brought & brought & tt) (id⊢ 𝓤 _)
       (λ r z. Checks (a .0 .now) (a .1 .0 .now) cd (a .1 .1 .1 .0 .now) (a .1 .1 .1 .1 .0 .now) r (z .1 .0)) (λ _ _. id⊢ 𝓤 _)
       -- [what `check` asks; carried, and what is open; proof; text; table]

@@ -31,8 +31,8 @@ use Rattle.lent_entries.specs.declared.Entry.{Entry}
 use Rattle.lent_entries.proofs.Behind.{opens-ref, closes-ref, behind-of, sets-behind}
 use Rattle.lent_entries.proofs.Steps.{_&_, a-slice, copy-of, field-of, sets, resets, lands-in, lends, parts, fparts, notes, frees}
 use Rattle.lent_entries.proofs.Values.{E, CD, carried-value}
-use Rattle.lent_entries.proofs.Walks.{typed, made-of, spelled, uint-value, by-value, Params, keeps-slice, gives-slice, sets-ref, values, Passing, Walk-at, brought, doubles}
-use Rattle.lent_entries.proofs.Walks.{starts, ends, stands, asks}
+use Rattle.lent_entries.proofs.Walks.{typed, made-of, spelled, uint-value, by-value, Params, keeps-slice, gives-slice, sets-ref, values, Passing, Walk-at}
+use Rattle.lent_entries.proofs.Walks.{brought, doubles, starts, ends, stands, asks}
 use Rattle.call_lrat_parts.specs.Parts.{LratGiving}
 use Rattle.call_lrat_parts.specs.declared.ProofReading.{ProofReading}
 use Rattle.call_lrat_parts.specs.declared.LratGiven.{LratGiven}
@@ -98,7 +98,8 @@ module _ {M : Type 1} (𝓤 : URA M) (H : Heap 𝓤) (A : Atoms 𝓤) (W : Given
       let vs = values f.ended passed κs a in
       starts f.ended passed 𝓤 H A (f.clauses 𝓤 H A mem run) κs qs bounds a g W (𝓣 .C) (𝓣 .Λ) code.function
       (a-slice spaceT & a-slice spaceP & (tt, tt) & (tt, tt) & a-slice (are .1 .1 .1 .1 .0 .0 .1 .0) & (tt, record { fits = last-is .1 }) & tt) (λ l.
-      drop ! $ parts ! 5 _ refl $ move ! (5 ∷ []) $ fparts ! 6 _ refl $ move ! (5 ∷ []) $ drop ! $ move ! (4 ∷ []) $ doubles W (named 4) (κs .1 .1 .1 .1 .0) u8 (a .1 .1 .1 .1 .0) $
+      drop ! $ parts ! 5 _ refl $ move ! (5 ∷ []) $ fparts ! 6 _ refl $ move ! (5 ∷ []) $ drop ! $ move ! (4 ∷ []) $
+      doubles W (named 4) (κs .1 .1 .1 .1 .0) u8 (a .1 .1 .1 .1 .0) $
       move ! (5 ∷ 9 ∷ 4 ∷ 8 ∷ []) $
       -- [what is read; its token; carried; its token; part; part; table; pool; the tokens of table, pool and part]
       opens-ref state-value (κs .1 .1 .1 .0) (qs .1 .1 .1 .0) (a .1 .1 .1 .0) (named 3) W tt (λ x-is. move ! (2 ∷ 3 ∷ []) $

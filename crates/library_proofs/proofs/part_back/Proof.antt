@@ -9,8 +9,8 @@ returns c = rw (c .before .before .numbers-of .ensures, c .if1 .taken) refl
 
 returns-2 : tie.Need-returns-2
 returns-2 c =
-    rw (c .state-of .ensures, c .before .before .before .numbers-of .ensures, ne-eqb (c .before .before .before .before .args .answer .code) 1 (c .before .if1 .left))
-    refl
+    let a = c .before .before .before .before .args in
+    rw (c .state-of .ensures, c .before .before .before .numbers-of .ensures, ne-eqb (a .answer .code) 1 (c .before .if1 .left)) refl
 
 pub part-back-spec : {M : Type 1} → statement M
 part-back-spec =

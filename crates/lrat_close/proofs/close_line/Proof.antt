@@ -47,7 +47,8 @@ module _ (c : tie.Else1) where
   passes : line-code (state start) (read-with (start .args .l) (lits start) no-literal) ≡ 0
   passes =
       let r = read-with (start .args .l) (lits start) no-literal in
-      sym (c .before .before .line-code .ensures no-literal) ∙ goes-on _ r (sym (c .before .is-last .ensures (lits start) no-literal (kept start)) ∙ c .if1 .left)
+      sym (c .before .before .line-code .ensures no-literal)
+      ∙ goes-on _ r (sym (c .before .is-last .ensures (lits start) no-literal (kept start)) ∙ c .if1 .left)
 
   not-last : (F : Literals) → false ≡ is-last (c .before .before .line-code .result) (read-with (start .args .l) (lits start) F)
   not-last F = sym (c .if1 .left) ∙ c .before .is-last .ensures (lits start) F (kept start)

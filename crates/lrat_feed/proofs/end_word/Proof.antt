@@ -24,7 +24,8 @@ returns-2 c =
     let w = s .before .before .before in
     let x = w .before .before .before in
     rw (c .between2 .ensures)
-    (word-ended (x .args .r) _ _ (x .pre) (sym (w .is-word .ensures) ∙ not-false (s .before .before .if1 .left)) (rw (s .said .ensures) at (k .take-word .ensures)))
+    (word-ended (x .args .r) _ _ (x .pre) (sym (w .is-word .ensures) ∙ not-false (s .before .before .if1 .left))
+    (rw (s .said .ensures) at (k .take-word .ensures)))
 
 pub end-word-spec : {M : Type 1} → statement M
 end-word-spec =

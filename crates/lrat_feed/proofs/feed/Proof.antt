@@ -84,7 +84,8 @@ loop-again c =
     let x = i .before .before .before .before .before in
     let u = unended x in
     let n = at-loop (worded u) .loop .inv in (
-      past-byte (here (worded u)) (more u) (at-end _ (goes-on (worded u)) _ (i .if3 .taken)) (then-closed _ (x .end-word .ensures .moved) (k .close-line .ensures _ _)),
+      past-byte (here (worded u)) (more u) (at-end _ (goes-on (worded u)) _ (i .if3 .taken))
+          (then-closed _ (x .end-word .ensures .moved) (k .close-line .ensures _ _)),
       k .close-line .kept .0 ∙ x .end-word .kept .0 ∙ n .1,
       k .close-line .kept .1 .0 ∙ n .2,
       x .end-word .kept .1 .1 .1 .1 .1 .0 ∙ n .3,
@@ -122,5 +123,6 @@ feed-spec =
     (λ c. fed-all (c .before .loop .inv .0) (search needs))  -- returns
     (λ c. c .before .before .loop .inv .1) (λ c. c .before .before .loop .inv .2) (λ c. c .before .before .loop .inv .3)  -- same-length-4 to same-length-6
     (λ c. fed-enough (c .before .before .loop .inv .0) (c .if1 .taken))  -- returns-2
-    (λ c. at-loop (c .before) .loop .inv .1) (λ c. at-loop (c .before) .loop .inv .2) (λ c. at-loop (c .before) .loop .inv .3)  -- same-length-7 to same-length-9
+    -- same-length-7 to same-length-9
+    (λ c. at-loop (c .before) .loop .inv .1) (λ c. at-loop (c .before) .loop .inv .2) (λ c. at-loop (c .before) .loop .inv .3)
     (λ c. fed-all (here (c .before)) (omega (arith, c .if2 .taken))))  -- returns-3

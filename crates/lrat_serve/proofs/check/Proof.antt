@@ -132,7 +132,8 @@ check-spec =
     (λ c κs. search needs)  -- count-requires
     (λ c. search needs)  -- array-share-prefix-buf
     (λ c. search needs)  -- slice-aggregate-feed-on
-    (λ c. sym (c .before .before .before .before .before .before .before .before .before .before .before .loop .inv .4 .feedable .keeps .long))  -- slice-aggregate-feed-on-2
+    -- slice-aggregate-feed-on-2
+    (λ c. sym (c .before .before .before .before .before .before .before .before .before .before .before .loop .inv .4 .feedable .keeps .long))
     feed-on-requires
     (λ c. omega (arith, few c, turn c .loop-test .taken))  -- add-read
     (λ c κs. search needs)  -- show-requires

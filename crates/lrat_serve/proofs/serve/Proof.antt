@@ -60,7 +60,8 @@ returns-3 c =
     let m = k .before .before .before .before .before in
     let x = m .before .before .before .before in
     let told = k .check .ensures in
-    (told .0, working-serves (rules x) (rows x) (vacant x) (pool x) (stack x) (long x) _ (fills x (m .filled3 .given .1)) (told .0) (k .check .result) (told .1))
+    let held = fills x (m .filled3 .given .1) in
+    (told .0, working-serves (rules x) (rows x) (vacant x) (pool x) (stack x) (long x) _ held (told .0) (k .check .result) (told .1))
 
 pub serve-spec : {M : Type 1} → statement M
 serve-spec =
