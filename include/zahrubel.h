@@ -42,10 +42,10 @@
  * a step that learns by one hint took 1.9 us with 16 clauses held, 3.8 with 128, 17 with 1,023; loading was 15 of these 17, 70 where all are records, 1,400 by
  * falling id; a line of a part of 1,000 took 0.09 to 0.12. host/examples/cost.rs measures it on the processor at hand.
  *
- * No call allocates, blocks or recurses. Stack: zahrubel_step takes 159 KB (159,024 bytes), zahrubel_give 131 KB, zahrubel_lrat_check 68 KB,
- * zahrubel_dimacs_next 19 KB, zahrubel_dimacs_judge 18 KB, zahrubel_open 4.2 KB, the others below 200 bytes: measured on a painted stack, and the same by
- * adding up the frames in the machine code, on an Arm processor of 64 bits. On x86-64 it may differ: host/tests/stack.rs measures it on the processor at hand
- * and holds every call to ZAHRUBEL_STACK_BYTES.
+ * No call allocates, blocks or recurses. Stack: zahrubel_step takes 159 KB (159,152 bytes), zahrubel_give 131 KB, zahrubel_lrat_open 98 KB,
+ * zahrubel_lrat_check 74 KB, zahrubel_lrat_give 73 KB, zahrubel_dimacs_next 19 KB, zahrubel_dimacs_judge 18 KB, zahrubel_open 4.2 KB, the others below 200
+ * bytes: measured on a painted stack on an Arm processor of 64 bits. On x86-64 it may differ: host/tests/stack.rs measures it on the processor at hand and
+ * holds every call to ZAHRUBEL_STACK_BYTES.
  *
  * The archive: tools/native --lib library libzahrubel.a
  */
