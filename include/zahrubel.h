@@ -3,7 +3,8 @@
  * The caller lends a table of clause entries, a pool of literal words and a model buffer, and carries a small record from call to call. Any
  * bits may stand in them: tables that are no state are refused with code 1. A refused call writes nothing; SAT and UNSAT never write the tables;
  * only an accepted SAT writes the model buffer. Frames come one by one, as words, or as lines of hexadecimal digits in parts of any bytes. Rules may be
- * kept as DIMACS text, whose clauses are handed out as frames.
+ * kept as DIMACS text, whose clauses are handed out as frames. Of another solver, which gives no frames, a proof as LRAT text is checked against such rules,
+ * in tables that are lent for it alone.
  *
  * What a caller owes is what C always asks: each pointer is aligned, not null (also where its length is 0), and points to as many elements as
  * the length says; what a call may write overlaps nothing else that it is handed, and no other thread touches it meanwhile.
@@ -35,15 +36,16 @@
  * What a call costs. zahrubel_step and zahrubel_give first load what is lent, since it may have any bits: a pass over the held entries and the pool words that
  * they hold, a search for each record, and a sort, which is one pass where the entries lie by rising id. Accepted changes leave them so; else it takes up to
  * the square of their number. Then comes the frame's own work. zahrubel_give loads once for all lines of a part, so many frames are cheapest as lines.
- * The other calls do not look at what is held. zahrubel_dimacs_judge reads a text once; zahrubel_dimacs_next judges it so at its first call, and then reads
- * each clause once. On an Arm processor (Neoverse-V1), with clauses of 3 literals, a step that learns by one hint took 1.9 us with 16 clauses held, 3.8 with
- * 128, 17 with 1,023; loading was 15 of these 17, 70 where all are records, 1,400 by falling id; a line of a part of 1,000 took 0.09 to 0.12.
- * host/examples/cost.rs measures it on the processor at hand.
+ * zahrubel_lrat_give loads once for a part, too: a proof is cheapest in large parts. The other calls do not look at what is held. zahrubel_dimacs_judge reads
+ * a text once; zahrubel_dimacs_next judges it so at its first call, and then reads each clause once. zahrubel_lrat_check and zahrubel_lrat_open judge the rules
+ * and then read each clause once; a proof is read once, up to its first refusal or empty clause. On an Arm processor (Neoverse-V1), with clauses of 3 literals,
+ * a step that learns by one hint took 1.9 us with 16 clauses held, 3.8 with 128, 17 with 1,023; loading was 15 of these 17, 70 where all are records, 1,400 by
+ * falling id; a line of a part of 1,000 took 0.09 to 0.12. host/examples/cost.rs measures it on the processor at hand.
  *
- * No call allocates, blocks or recurses. Stack: zahrubel_step takes 158 KB (158,320 bytes), zahrubel_give 131 KB, zahrubel_dimacs_next 19 KB,
- * zahrubel_dimacs_judge 18 KB, zahrubel_open 4.2 KB, the others below 200 bytes: measured on a painted stack, and the same by adding up the frames in the
- * machine code, on an Arm processor of 64 bits. On x86-64 it may differ: host/tests/stack.rs measures it on the processor at hand and holds every call to
- * ZAHRUBEL_STACK_BYTES.
+ * No call allocates, blocks or recurses. Stack: zahrubel_step takes 159 KB (159,152 bytes), zahrubel_give 131 KB, zahrubel_lrat_open 98 KB,
+ * zahrubel_lrat_check 74 KB, zahrubel_lrat_give 73 KB, zahrubel_dimacs_next 19 KB, zahrubel_dimacs_judge 18 KB, zahrubel_open 4.2 KB, the others below 200
+ * bytes: measured on a painted stack on an Arm processor of 64 bits. On x86-64 it may differ: host/tests/stack.rs measures it on the processor at hand and
+ * holds every call to ZAHRUBEL_STACK_BYTES.
  *
  * The archive: tools/native --lib library libzahrubel.a
  */
@@ -102,8 +104,8 @@ enum zahrubel_code {
     ZAHRUBEL_BAD_GROUP = 9,         /* missing or wrong: index of that word */
     ZAHRUBEL_FALSE_CLAUSE = 10,     /* the model falsifies an irredundant clause: the least such id */
     ZAHRUBEL_FALSE_ASSUMPTION = 11, /* the model falsifies it: its word index */
-    ZAHRUBEL_NO_ENTRY = 12,         /* none is free: 0 */
-    ZAHRUBEL_NO_WORDS = 13,         /* not enough literal words are free: 0 */
+    ZAHRUBEL_NO_ENTRY = 12,         /* none is free: 0; of a proof the line, from 1, or 0 where the rules have no room */
+    ZAHRUBEL_NO_WORDS = 13,         /* not enough literal words are free: the same */
     /* The faults of a text: the byte, from 0, where the first faulty word starts. */
     ZAHRUBEL_NO_PROBLEM_LINE = 21,     /* the word found instead; the text's length where there is none */
     ZAHRUBEL_SECOND_PROBLEM_LINE = 22, /* its p */
@@ -113,7 +115,16 @@ enum zahrubel_code {
     ZAHRUBEL_LONG_CLAUSE = 26,         /* over 256 literals: the 257th */
     ZAHRUBEL_VARS_OUT_OF_RANGE = 27,   /* the declared count is outside 1 to ZAHRUBEL_MOST_VARIABLES */
     ZAHRUBEL_UNCLOSED_CLAUSE = 28,     /* the text's length */
-    ZAHRUBEL_WRONG_CLAUSE_COUNT = 29   /* the text's length */
+    ZAHRUBEL_WRONG_CLAUSE_COUNT = 29,  /* the text's length */
+    /* What a proof is refused for: the line, from 1. Of one line the first of these counts, with 12 and 13 before 37. */
+    ZAHRUBEL_MALFORMED_LINE = 31, /* no addition and no deletion */
+    ZAHRUBEL_PAST_RULES = 32,     /* a literal past the count that the rules declare */
+    ZAHRUBEL_BAD_CLAUSE = 33,     /* a variable twice, or over 256 literals */
+    ZAHRUBEL_ID_NOT_ABOVE = 34,   /* an added id that is not above those of the rules and all added before */
+    ZAHRUBEL_ID_NOT_HELD = 35,    /* a deleted id that is not held */
+    ZAHRUBEL_NEGATIVE_HINT = 36,  /* read or not */
+    ZAHRUBEL_FAILED_PROOF = 37,   /* a hint that is read is not held, has a true literal or two open ones, or the hints are used up */
+    ZAHRUBEL_NO_EMPTY_CLAUSE = 38 /* the proof ends without one: how many lines it has */
 };
 
 /* The place of a clause. Any other number is no state. */
@@ -141,7 +152,7 @@ struct zahrubel_carried {
     uint32_t stack[ZAHRUBEL_MOST_ENTRIES];
 };
 
-/* One of the codes above, 0 for an acceptance and 1 to 13 for a refusal, 21 to 29 for a faulty text, and its detail. */
+/* One of the codes above, 0 for an acceptance and 1 to 13 for a refusal, 21 to 29 for a faulty text, 31 to 38 for a faulty proof, and its detail. */
 struct zahrubel_answer {
     uint64_t code;
     uint64_t detail;
@@ -177,6 +188,26 @@ struct zahrubel_cnf {
 struct zahrubel_cursor {
     size_t at;
     uint64_t id;
+};
+
+/* What is read of a proof that is given in parts. zahrubel_lrat_open sets it. Any bits may stand in it: what is no reading is refused 1. A reading has `count`
+ * literals, at most 256, each of a variable from 1 to ZAHRUBEL_MOST_VARIABLES, and 31 or more in `noted`. */
+struct zahrubel_proof {
+    uint64_t lines; /* closed so far; once the answer is known, its line */
+    uint64_t value;
+    uint32_t kind;
+    uint32_t minus;
+    uint32_t phase;
+    uint32_t noted;
+    uint32_t id;
+    uint32_t count;
+    uint32_t proof;
+    uint32_t over; /* not 0: the answer is known, and no further byte is read */
+    uint32_t code; /* then: its code */
+    uint32_t spare;
+    int32_t literals[256];
+    uint64_t plus[32];
+    uint64_t minuses[32];
 };
 
 /* Opens for the variables 1 to `vars`. Of the tables only their sizes matter. Accepted, `carried` is the empty state, whatever the tables hold;
@@ -217,6 +248,27 @@ struct zahrubel_answer zahrubel_dimacs_judge(const uint8_t *text, size_t text_by
  * it, so a faulty text yields no frame; 4 and 2147483648 where no id is left. The text is the same from call to call: behind the cursor of another, or one
  * that is made up, the clause that stands there is handed out, or none. */
 struct zahrubel_answer zahrubel_dimacs_next(const uint8_t *text, size_t text_bytes, struct zahrubel_cursor *cursor, int32_t *frame, size_t frame_words);
+
+/* Checks a proof, as LRAT text, against rules, as DIMACS text, both whole and of any bytes. Code 0 and detail 0: every line up to the first empty clause
+ * passed, and one was reached, so no assignment satisfies the rules. Else 1 and 0 where lent sizes are out of range; 21 to 29 and the byte where the rules have
+ * a fault; 12 or 13 and 0 where there is no room for the rules; 12, 13 or 31 to 38 and the line of the proof. By 1 and by 21 to 29 nothing is written. By any
+ * other answer the tables are left opened empty for the rules' V: `carried` says so, and the pool was used. Of the entries only their number matters. */
+struct zahrubel_answer zahrubel_lrat_check(const struct zahrubel_entry *entries, size_t entry_count, int32_t *pool, size_t pool_words,
+                                           struct zahrubel_carried *carried, const uint8_t *cnf, size_t cnf_bytes, const uint8_t *proof,
+                                           size_t proof_bytes);
+
+/* The same with a proof of any length in parts. Opening answers of the rules as zahrubel_lrat_check does. Code 0 and detail 0: the tables hold the rules, and
+ * `proof` is set to nothing read. By 12 and 13 the tables are opened empty; by 1 and 21 to 29 nothing is written. */
+struct zahrubel_answer zahrubel_lrat_open(struct zahrubel_entry *entries, size_t entry_count, int32_t *pool, size_t pool_words,
+                                          struct zahrubel_carried *carried, struct zahrubel_proof *proof, const uint8_t *cnf, size_t cnf_bytes);
+
+/* Gives a part of the proof, of any bytes, some or none; where `last` is not 0 the proof ends with it. Tables, `carried` and `proof` are those of the call
+ * before. Code 0 and detail 0: nothing is refused so far; where `over` is not 0 then, the proof is accepted. 12, 13 or 31 to 38 and the line: it is refused,
+ * and `over` is not 0. It is over after the last part at the latest; then the tables are empty, and every further call tells the same and writes nothing.
+ * Code 1 and 0: the tables are no state, lent sizes are out of range, or `proof` is no reading; nothing is written. */
+struct zahrubel_answer zahrubel_lrat_give(struct zahrubel_entry *entries, size_t entry_count, int32_t *pool, size_t pool_words,
+                                          struct zahrubel_carried *carried, struct zahrubel_proof *proof, const uint8_t *part, size_t part_bytes,
+                                          uint32_t last);
 
 #ifdef __cplusplus
 }

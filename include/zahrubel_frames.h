@@ -157,8 +157,20 @@ static inline const char *zahrubel_code_name(uint64_t code) {
         "an unclosed clause",
         "a wrong clause count",
     };
+    static const char *const of_proofs[] = {
+        "a malformed line",
+        "a literal past the count of the rules",
+        "a clause with a variable twice, or over 256 literals",
+        "an id not above all before it",
+        "a deleted id that is not held",
+        "a negative hint",
+        "a failed proof",
+        "an end without an empty clause",
+    };
     if (code >= ZAHRUBEL_NO_PROBLEM_LINE && code <= ZAHRUBEL_WRONG_CLAUSE_COUNT)
         return faults[code - ZAHRUBEL_NO_PROBLEM_LINE];
+    if (code >= ZAHRUBEL_MALFORMED_LINE && code <= ZAHRUBEL_NO_EMPTY_CLAUSE)
+        return of_proofs[code - ZAHRUBEL_MALFORMED_LINE];
     return code < sizeof names / sizeof names[0] ? names[code] : "no answer";
 }
 

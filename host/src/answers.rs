@@ -3,7 +3,8 @@
 use crate::Refused;
 use std::fmt;
 
-/// Code 0 is an acceptance, 1 to 13 are refusals, 21 to 29 the faults of a text.
+/// Code 0 is an acceptance, 1 to 13 are refusals, 21 to 29 the faults of a text, 31 to 38 those of a
+/// proof.
 #[repr(C)]
 #[derive(Clone, Copy, Debug, PartialEq, Eq)]
 pub struct Answer {
@@ -37,11 +38,19 @@ pub enum Code {
     VarsOutOfRange = 27,
     UnclosedClause = 28,
     WrongClauseCount = 29,
+    MalformedLine = 31,
+    PastRules = 32,
+    BadClause = 33,
+    IdNotAbove = 34,
+    IdNotHeld = 35,
+    NegativeHint = 36,
+    FailedProof = 37,
+    NoEmptyClause = 38,
 }
 
 impl Code {
     /// By their numbers.
-    pub const ALL: [Code; 23] = [
+    pub const ALL: [Code; 31] = [
         Code::Accepted,
         Code::NoState,
         Code::NoFrame,
@@ -65,6 +74,14 @@ impl Code {
         Code::VarsOutOfRange,
         Code::UnclosedClause,
         Code::WrongClauseCount,
+        Code::MalformedLine,
+        Code::PastRules,
+        Code::BadClause,
+        Code::IdNotAbove,
+        Code::IdNotHeld,
+        Code::NegativeHint,
+        Code::FailedProof,
+        Code::NoEmptyClause,
     ];
 
     /// The code of a number; no answer has another than these.
@@ -98,12 +115,25 @@ impl Code {
             Code::VarsOutOfRange => "a declared variable count outside 1 to 2048",
             Code::UnclosedClause => "an unclosed clause",
             Code::WrongClauseCount => "a wrong clause count",
+            Code::MalformedLine => "a malformed line",
+            Code::PastRules => "a literal past the count of the rules",
+            Code::BadClause => "a clause with a variable twice, or over 256 literals",
+            Code::IdNotAbove => "an id not above all before it",
+            Code::IdNotHeld => "a deleted id that is not held",
+            Code::NegativeHint => "a negative hint",
+            Code::FailedProof => "a failed proof",
+            Code::NoEmptyClause => "an end without an empty clause",
         }
     }
 
     /// Whether it is a fault of a text; the detail is then a byte of it.
     pub fn is_fault(self) -> bool {
-        self >= Code::NoProblemLine
+        (Code::NoProblemLine..=Code::WrongClauseCount).contains(&self)
+    }
+
+    /// Whether it is said of a proof alone; the detail is then a line of it.
+    pub fn is_of_proof(self) -> bool {
+        self >= Code::MalformedLine
     }
 }
 
@@ -156,6 +186,9 @@ impl fmt::Display for Answer {
             Code::FalseClause => write!(out, "the model falsifies clause {detail}"),
             Code::FalseAssumption => write!(out, "{code}, word {detail}"),
             fault if fault.is_fault() => write!(out, "{fault}, byte {detail}"),
+            code if code.is_of_proof() => write!(out, "{code}, line {detail}"),
+            // Of a frame, and of the rules of a proof, it is 0.
+            Code::NoEntry | Code::NoWords if detail != 0 => write!(out, "{code}, line {detail}"),
             _ => write!(out, "{code}"),
         }
     }

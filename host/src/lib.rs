@@ -27,6 +27,7 @@ mod errors;
 mod frames;
 mod lines;
 mod linked;
+pub mod lrat;
 mod replies;
 mod session;
 mod terms;

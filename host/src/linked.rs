@@ -1,6 +1,7 @@
 //! The archive's functions, as `include/zahrubel.h` declares them.
 
 use crate::dimacs::{Cnf, Cursor};
+use crate::lrat::Proof;
 use crate::{Answer, Carried, Entry, Given, Reader};
 
 /// Where a part of a pool lies.
@@ -79,5 +80,40 @@ extern "C" {
         cursor: *mut Cursor,
         frame: *mut i32,
         frame_words: usize,
+    ) -> Answer;
+
+    pub fn zahrubel_lrat_check(
+        entries: *const Entry,
+        entry_count: usize,
+        pool: *mut i32,
+        pool_words: usize,
+        carried: *mut Carried,
+        cnf: *const u8,
+        cnf_bytes: usize,
+        proof: *const u8,
+        proof_bytes: usize,
+    ) -> Answer;
+
+    pub fn zahrubel_lrat_open(
+        entries: *mut Entry,
+        entry_count: usize,
+        pool: *mut i32,
+        pool_words: usize,
+        carried: *mut Carried,
+        proof: *mut Proof,
+        cnf: *const u8,
+        cnf_bytes: usize,
+    ) -> Answer;
+
+    pub fn zahrubel_lrat_give(
+        entries: *mut Entry,
+        entry_count: usize,
+        pool: *mut i32,
+        pool_words: usize,
+        carried: *mut Carried,
+        proof: *mut Proof,
+        part: *const u8,
+        part_bytes: usize,
+        last: u32,
     ) -> Answer;
 }

@@ -16,6 +16,21 @@ pub struct Tables {
     pub carried: Box<Carried>,
 }
 
+impl Tables {
+    fn unopened(entries: usize, words: usize) -> Tables {
+        Tables {
+            entries: vec![Entry::default(); entries],
+            pool: vec![0; words],
+            carried: Box::default(),
+        }
+    }
+
+    /// As much as can be lent, not opened yet.
+    pub(crate) fn largest() -> Tables {
+        Tables::unopened(MOST_ENTRIES, MOST_WORDS)
+    }
+}
+
 /// A line that is begun: how far it is read, and its words.
 #[derive(Clone)]
 struct Line {
@@ -65,11 +80,7 @@ impl Session {
     /// Opens with tables of these sizes, or hands back the refusal.
     pub fn open(vars: u32, entries: usize, words: usize) -> Result<Session, Refused> {
         // One more than can be lent is refused like any number above, and costs no memory.
-        let mut tables = Tables {
-            entries: vec![Entry::default(); entries.min(MOST_ENTRIES + 1)],
-            pool: vec![0; words.min(MOST_WORDS + 1)],
-            carried: Box::default(),
-        };
+        let mut tables = Tables::unopened(entries.min(MOST_ENTRIES + 1), words.min(MOST_WORDS + 1));
         open(vars, &tables.entries, &tables.pool, &mut tables.carried).accepted()?;
         Ok(Session::over(tables))
     }

@@ -1,4 +1,4 @@
-/* The header as a C host uses it: its layout, document 01's worked example, by frames and by lines, and rules as DIMACS text. */
+/* The header as a C host uses it: its layout, document 01's worked example, by frames and by lines, rules as DIMACS text, and a proof. */
 #include <assert.h>
 #include <stdio.h>
 #include <string.h>
@@ -18,6 +18,11 @@ _Static_assert(sizeof(struct zahrubel_cnf) == 16, "two words of 64 bits");
 _Static_assert(offsetof(struct zahrubel_cnf, clauses) == 8, "the second");
 _Static_assert(sizeof(struct zahrubel_cursor) == 16, "a size and a word of 64 bits");
 _Static_assert(offsetof(struct zahrubel_cursor, id) == 8, "the second");
+_Static_assert(sizeof(struct zahrubel_proof) == 1592, "199 words of 64 bits");
+_Static_assert(offsetof(struct zahrubel_proof, over) == 44, "behind two words of 64 bits and seven of 32");
+_Static_assert(offsetof(struct zahrubel_proof, literals) == 56, "behind ten of 32");
+_Static_assert(offsetof(struct zahrubel_proof, plus) == 1080, "behind 256 literals");
+_Static_assert(offsetof(struct zahrubel_proof, minuses) == 1336, "behind 32 of 64 bits");
 
 static struct zahrubel_entry entries[ZAHRUBEL_MOST_ENTRIES];
 static int32_t pool[ZAHRUBEL_MOST_WORDS];
@@ -109,6 +114,36 @@ static void by_text(const char *text) {
     printf("%d %d, last id %d\n", (int)answer.code, (int)answer.detail, (int)cursor.id);
 }
 
+static void check_proof(const char *rules, const char *proof) {
+    struct zahrubel_answer answer =
+        zahrubel_lrat_check(entries, ZAHRUBEL_MOST_ENTRIES, pool, ZAHRUBEL_MOST_WORDS, &carried, (const uint8_t *)rules, strlen(rules),
+                            (const uint8_t *)proof, strlen(proof));
+    printf("proof %d %d, %d variables\n", (int)answer.code, (int)answer.detail, (int)carried.vars);
+}
+
+/* The same in two parts: what is told after the first, and at the end. */
+static void check_parts(const char *rules, const char *first, const char *rest) {
+    struct zahrubel_proof proof;
+    struct zahrubel_answer answer =
+        zahrubel_lrat_open(entries, ZAHRUBEL_MOST_ENTRIES, pool, ZAHRUBEL_MOST_WORDS, &carried, &proof, (const uint8_t *)rules, strlen(rules));
+    assert(answer.code == ZAHRUBEL_ACCEPTED && carried.count == 4);
+    const char *const parts[] = {first, rest};
+    for (uint32_t last = 0; last < 2; last++) {
+        const char *part = parts[last];
+        answer = zahrubel_lrat_give(entries, ZAHRUBEL_MOST_ENTRIES, pool, ZAHRUBEL_MOST_WORDS, &carried, &proof, (const uint8_t *)part, strlen(part), last);
+        printf("part %d %d, %s\n", (int)answer.code, (int)answer.detail, proof.over ? "over" : "more");
+    }
+}
+
+/* Rules without a model, and proofs of that. */
+static void by_proof(void) {
+    const char *rules = "p cnf 2 4\n1 2 0\n1 -2 0\n-1 2 0\n-1 -2 0\n";
+    check_proof(rules, "5 1 0 1 2 0\n5 d 1 2 0\n6 0 5 3 4 0\n");
+    check_proof(rules, "5 1 0 1 2 0\n6 0 3 5 4 0\n");
+    check_parts(rules, "5 1 0 1 2 0\n5 d 1 2", " 0\n6 0 5 3 4 0\n");
+    check_parts(rules, "5 1 0 1 2 0\n6 0 3 5 4 0\n", "");
+}
+
 int main(void) {
     open_all();
     SAY(1, 1, 1, 2);
@@ -121,5 +156,6 @@ int main(void) {
     by_lines();
     by_text("c rules\np cnf 3 3\n1 -2 0\n0 -3 0");
     by_text("p cnf 3 1\n1 -2 4 0\n");
+    by_proof();
     return 0;
 }

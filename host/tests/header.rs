@@ -6,7 +6,7 @@ use c::{compiled, compiled_text, is_there, said, C, CPP};
 use zahrubel::{Code, Operation};
 
 #[test]
-fn c_answers_the_worked_example_and_reads_rules() {
+fn c_answers_the_worked_example_and_reads_rules_and_proofs() {
     let said = said(&compiled(C, "header.c", "header"), Vec::new());
     let lines: Vec<&str> = said.lines().collect();
     let by_frames = ["0 0", "0 0", "0 0", "0 1", "1", "5 1", "0 0", "0 0"];
@@ -30,7 +30,17 @@ fn c_answers_the_worked_example_and_reads_rules() {
         "0 0, last id 3",
         "fault 24, byte 15",
     ];
-    assert_eq!(lines, [&by_frames[..], &by_lines, &by_text].concat());
+    let by_proof = ["proof 0 0, 2 variables", "proof 37 2, 2 variables"];
+    let in_parts = [
+        "part 0 0, more",
+        "part 0 0, over",
+        "part 37 2, over",
+        "part 37 2, over",
+    ];
+    assert_eq!(
+        lines,
+        [&by_frames[..], &by_lines, &by_text, &by_proof, &in_parts].concat()
+    );
 }
 
 /// The example in the header's first comment, as somebody would copy it.

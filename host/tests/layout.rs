@@ -2,6 +2,7 @@
 
 use std::mem::{align_of, offset_of, size_of};
 use zahrubel::dimacs::{Cnf, Cursor};
+use zahrubel::lrat::Proof;
 use zahrubel::{Answer, Carried, Entry, Given, Reader};
 
 #[test]
@@ -74,4 +75,30 @@ fn what_a_text_has_is_two_words_of_64_bits() {
 fn a_cursor_is_a_size_and_a_word_of_64_bits() {
     assert_eq!((size_of::<Cursor>(), align_of::<Cursor>()), (16, 8));
     assert_eq!((offset_of!(Cursor, at), offset_of!(Cursor, id)), (0, 8));
+}
+
+#[test]
+fn what_is_read_of_a_proof_is_words_literals_and_two_sets() {
+    assert_eq!((size_of::<Proof>(), align_of::<Proof>()), (1_592, 8));
+    let offsets = [
+        offset_of!(Proof, lines),
+        offset_of!(Proof, value),
+        offset_of!(Proof, kind),
+        offset_of!(Proof, minus),
+        offset_of!(Proof, phase),
+        offset_of!(Proof, noted),
+        offset_of!(Proof, id),
+        offset_of!(Proof, count),
+        offset_of!(Proof, proof),
+        offset_of!(Proof, over),
+        offset_of!(Proof, code),
+        offset_of!(Proof, spare),
+        offset_of!(Proof, literals),
+        offset_of!(Proof, plus),
+        offset_of!(Proof, minuses),
+    ];
+    let words = [16, 20, 24, 28, 32, 36, 40, 44, 48, 52];
+    assert_eq!(offsets[..2], [0, 8]);
+    assert_eq!(offsets[2..12], words);
+    assert_eq!(offsets[12..], [56, 1_080, 1_336]);
 }

@@ -9,7 +9,7 @@
 
 #include "zahrubel.h"
 
-enum { STACK_BYTES = 1 << 20, PAINT = 0xa5, MOST_INPUT = 1 << 26, MOST_TEXT = 1 << 14, CLAUSES = 3 };
+enum { STACK_BYTES = 1 << 20, PAINT = 0xa5, MOST_INPUT = 1 << 26, MOST_TEXT = 1 << 14, CLAUSES = 3, MOST_PROOF = 1 << 17, STEPS = 3000 };
 
 static struct zahrubel_entry entries[ZAHRUBEL_MOST_ENTRIES];
 static int32_t pool[ZAHRUBEL_MOST_WORDS];
@@ -21,6 +21,7 @@ static uint8_t out[4 * ZAHRUBEL_LONGEST_ANSWER];
 static uint8_t *input;
 static size_t input_bytes;
 static char text[MOST_TEXT];
+static char proof[MOST_PROOF];
 
 /* Where the stack stood when the last call was made. */
 static const uint8_t *before;
@@ -104,6 +105,38 @@ static void read_text(void) {
     assert(answer.code == ZAHRUBEL_ACCEPTED && cursor.id == CLAUSES);
 }
 
+/* Rules without a model, and a proof whose additions and deletions use all room again. */
+static const char rules[] = "p cnf 2 4\n1 2 0\n1 -2 0\n-1 2 0\n-1 -2 0\n";
+
+static void write_proof(void) {
+    size_t at = 0;
+    for (int id = 5; id < 5 + STEPS; id++)
+        at += (size_t)sprintf(proof + at, "%d 1 0 1 2 0\n%d d %d 0\n", id, id, id);
+    at += (size_t)sprintf(proof + at, "%d 2 0 3 1 0\n%d 0 %d 2 4 0\n", STEPS + 5, STEPS + 6, STEPS + 5);
+    assert(at < MOST_PROOF);
+}
+
+static void check_proof(void) {
+    struct zahrubel_answer answer =
+        zahrubel_lrat_check(entries, ZAHRUBEL_MOST_ENTRIES, pool, ZAHRUBEL_MOST_WORDS, &carried, (const uint8_t *)rules, strlen(rules),
+                            (const uint8_t *)proof, strlen(proof));
+    assert(answer.code == ZAHRUBEL_ACCEPTED);
+}
+
+static struct zahrubel_proof reading;
+
+static void open_proof(void) {
+    struct zahrubel_answer answer =
+        zahrubel_lrat_open(entries, ZAHRUBEL_MOST_ENTRIES, pool, ZAHRUBEL_MOST_WORDS, &carried, &reading, (const uint8_t *)rules, strlen(rules));
+    assert(answer.code == ZAHRUBEL_ACCEPTED);
+}
+
+static void give_proof(void) {
+    struct zahrubel_answer answer =
+        zahrubel_lrat_give(entries, ZAHRUBEL_MOST_ENTRIES, pool, ZAHRUBEL_MOST_WORDS, &carried, &reading, (const uint8_t *)proof, strlen(proof), 1);
+    assert(answer.code == ZAHRUBEL_ACCEPTED && reading.over);
+}
+
 struct trial {
     const char *name;
     void (*run)(void);
@@ -138,10 +171,13 @@ int main(void) {
     assert(input);
     input_bytes = fread(input, 1, MOST_INPUT, stdin);
     write_text();
+    write_proof();
     /* The first call also finds memcpy and memset, which a program does once. */
     const struct trial trials[] = {{"the first call", open_all}, {"open", open_all}, {"step", step_all}, {"open", open_all},
                                    {"give", give_all},           {"end", end_all},   {"reading", read_held},
-                                   {"judging", judge_text},      {"frames", read_text}};
+                                   {"judging", judge_text},      {"frames", read_text}, {"a proof", check_proof},
+                                   {"rules of a proof", open_proof}, {"a proof in parts", give_proof},
+    };
     for (size_t i = 0; i < sizeof trials / sizeof trials[0]; i++)
         try(&trials[i]);
     return came_to == 0;

@@ -33,7 +33,7 @@ fn no_call_takes_more_stack_than_the_header_says() {
         (name, bytes.parse::<usize>().expect("a number"))
     });
     let taken: Vec<(&str, usize)> = taken.collect();
-    assert_eq!(taken.len(), 9, "{taken:?}");
+    assert_eq!(taken.len(), 12, "{taken:?}");
     for (name, bytes) in taken {
         assert!(bytes > 0 && bytes <= bound(), "{name} takes {bytes} bytes");
         println!("{name} takes {bytes} bytes of stack");

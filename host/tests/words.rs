@@ -95,7 +95,7 @@ fn frames_that_the_page_does_not_show_are_told_alike() {
 }
 
 /// Every code, with and without a detail where it says another thing; and some that are none.
-const ANSWERS: [(u64, u64, &str); 30] = [
+const ANSWERS: [(u64, u64, &str); 42] = [
     (0, 0, "accepted"),
     (0, 1, "accepted: 1 variable changed"),
     (0, 7, "accepted: 7 variables changed"),
@@ -138,9 +138,33 @@ const ANSWERS: [(u64, u64, &str); 30] = [
     ),
     (28, 99, "refused 28: an unclosed clause, byte 99"),
     (29, 99, "refused 29: a wrong clause count, byte 99"),
+    (12, 7, "refused 12: no entry is free, line 7"),
+    (
+        13,
+        7,
+        "refused 13: not enough literal words are free, line 7",
+    ),
+    (31, 1, "refused 31: a malformed line, line 1"),
+    (
+        32,
+        4,
+        "refused 32: a literal past the count of the rules, line 4",
+    ),
+    (
+        33,
+        4,
+        "refused 33: a clause with a variable twice, or over 256 literals, line 4",
+    ),
+    (34, 2, "refused 34: an id not above all before it, line 2"),
+    (35, 2, "refused 35: a deleted id that is not held, line 2"),
+    (36, 9, "refused 36: a negative hint, line 9"),
+    (37, 9, "refused 37: a failed proof, line 9"),
+    (38, 0, "refused 38: an end without an empty clause, line 0"),
     (14, 5, "code 14, detail 5: no answer"),
     (20, 5, "code 20, detail 5: no answer"),
     (30, 0, "code 30, detail 0: no answer"),
+    (39, 0, "code 39, detail 0: no answer"),
+    (40, 0, "code 40, detail 0: no answer"),
     (
         u64::MAX,
         0,
@@ -163,10 +187,11 @@ fn every_answer_is_told_in_words() {
         }
     }
     let all: Vec<u64> = Code::ALL.iter().map(|&code| code as u64).collect();
-    assert!(all.into_iter().eq((0..14).chain(21..30)));
-    assert!(Code::ALL
-        .iter()
-        .all(|&code| code.is_fault() == (code as u64 > 20)));
+    assert!(all.into_iter().eq((0..14).chain(21..30).chain(31..39)));
+    for code in Code::ALL {
+        assert_eq!(code.is_fault(), (21..30).contains(&(code as u64)));
+        assert_eq!(code.is_of_proof(), code as u64 > 30);
+    }
 }
 
 #[test]

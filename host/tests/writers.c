@@ -124,7 +124,7 @@ int main(void) {
     long room;
     while (next_number(&room))
         try_case((size_t)room);
-    for (uint64_t code = 0; code < 31; code++)
+    for (uint64_t code = 0; code < 41; code++)
         puts(zahrubel_code_name(code));
     assert(strcmp(zahrubel_code_name(UINT64_MAX), "no answer") == 0);
     return 0;

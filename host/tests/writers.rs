@@ -56,7 +56,7 @@ fn cases(seed: u64, count: usize) -> (String, String) {
 /// Of every code, and of the numbers beside them that are none.
 fn names() -> String {
     let name = |number| Code::of(number).map_or("no answer", Code::name);
-    (0..31)
+    (0..41)
         .map(|number| format!("{}\n", name(number)))
         .collect()
 }

@@ -128,9 +128,12 @@ impl Checker {
     fn drop_clause(&mut self, id: i32, hints: Part<'_>) -> Result<(), Refusal> {
         let irredundant = &self.state.irredundant;
         let clause = find(irredundant, id)?;
-        prove(&mut self.values, clause.iter().copied(), hints, |hint| {
-            other_than(irredundant, id, hint)
-        })
+        prove(
+            &mut self.values,
+            clause.iter().copied(),
+            hints.indexed(),
+            |hint| other_than(irredundant, id, hint),
+        )
         .map_err(|unproved| refusal(unproved, 0))?;
         self.held_words -= clause.len();
         self.state.irredundant.remove(&id);
@@ -211,8 +214,10 @@ impl Checker {
         hints: Part<'_>,
     ) -> Result<(), Refusal> {
         let state = &self.state;
-        prove(&mut self.values, target, hints, |hint| state.find(hint))
-            .map_err(|unproved| refusal(unproved, 0))
+        prove(&mut self.values, target, hints.indexed(), |hint| {
+            state.find(hint)
+        })
+        .map_err(|unproved| refusal(unproved, 0))
     }
 
     /// "A new id must be greater than every id accepted before since opening."
@@ -272,9 +277,12 @@ fn judge_groups(
         let hints = next_group(&mut groups, other)?;
         // "The target is C together with D less the opposites of W".
         let rest = touched.iter().filter(|&&literal| !marks.is_false(literal));
-        prove(values, clause.iter().chain(rest).copied(), hints, |hint| {
-            other_than(irredundant, id, hint)
-        })
+        prove(
+            values,
+            clause.iter().chain(rest).copied(),
+            hints.indexed(),
+            |hint| other_than(irredundant, id, hint),
+        )
         .map_err(|unproved| refusal(unproved, other))?;
     }
     if groups.words.is_empty() {

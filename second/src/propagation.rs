@@ -1,6 +1,5 @@
 //! Propagation by hints.
 
-use crate::frame::Part;
 use crate::values::Values;
 
 /// Why a target is not proved.
@@ -12,12 +11,12 @@ pub enum Unproved {
     UsedUp,
 }
 
-/// Judges a target, a set of literals, against the allowed set of clauses.
-pub fn prove<'c>(
+/// Judges a target, a set of literals, against the allowed set of clauses. Each hint is an id at its word index.
+pub fn prove<'c, Id>(
     values: &mut Values,
     target: impl Iterator<Item = i32>,
-    hints: Part<'_>,
-    allowed: impl Fn(i32) -> Option<&'c [i32]>,
+    hints: impl Iterator<Item = (usize, Id)>,
+    allowed: impl Fn(Id) -> Option<&'c [i32]>,
 ) -> Result<(), Unproved> {
     values.clear();
     for literal in target {
@@ -27,7 +26,7 @@ pub fn prove<'c>(
         }
         values.make_true(-literal);
     }
-    for (word, id) in hints.indexed() {
+    for (word, id) in hints {
         let clause = allowed(id).ok_or(Unproved::Hint { word })?;
         match read_hint(clause, values) {
             Reading::AllFalse => return Ok(()),

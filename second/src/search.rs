@@ -159,7 +159,6 @@ impl<'c> Search<'c> {
 #[cfg(test)]
 mod tests {
     use super::*;
-    use crate::frame::Part;
     use crate::propagation::prove;
     use crate::random::Random;
 
@@ -179,12 +178,9 @@ mod tests {
             let Some(words) = Clauses::new(9).and(&place).find_hints(&target, except) else {
                 continue;
             };
-            let hints = Part {
-                start: 0,
-                words: &words,
-            };
+            let hints = words.iter().copied().enumerate();
             let allowed = |id: i32| place.get(&id).filter(|_| id != except);
-            let reading = prove(&mut Values::new(9), target.into_iter(), hints, |id| {
+            let reading = prove(&mut Values::new(9), target.into_iter(), hints, |id: i32| {
                 allowed(id).map(Vec::as_slice)
             });
             assert_eq!(reading, Ok(()));

@@ -121,9 +121,12 @@ fn proved(
     leaving: i32,
 ) -> Result<(), Unproved> {
     let mut values = Values::new(before.vars);
-    prove(&mut values, target.iter().copied(), hints, |hint| {
-        allowed(before, hint).filter(|_| hint != leaving)
-    })
+    prove(
+        &mut values,
+        target.iter().copied(),
+        hints.indexed(),
+        |hint| allowed(before, hint).filter(|_| hint != leaving),
+    )
 }
 
 fn drop_leans_on(allowed: Allowed, before: &State, frame: Frame<'_>, answer: &Answer) -> Instead {

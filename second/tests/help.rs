@@ -5,11 +5,14 @@ use std::process::{Command, Output, Stdio};
 use std::thread;
 use std::time::{Duration, Instant};
 
-const PROGRAMS: [(&str, &str); 9] = [
+const PROGRAMS: [(&str, &str); 12] = [
     ("bench", env!("CARGO_BIN_EXE_bench")),
     ("differ", env!("CARGO_BIN_EXE_differ")),
+    ("differ-proofs", env!("CARGO_BIN_EXE_differ-proofs")),
     ("differ-texts", env!("CARGO_BIN_EXE_differ-texts")),
     ("judge", env!("CARGO_BIN_EXE_judge")),
+    ("proofs", env!("CARGO_BIN_EXE_proofs")),
+    ("read-proof", env!("CARGO_BIN_EXE_read-proof")),
     ("read-text", env!("CARGO_BIN_EXE_read-text")),
     ("second", env!("CARGO_BIN_EXE_second")),
     ("texts", env!("CARGO_BIN_EXE_texts")),

@@ -225,7 +225,7 @@ fn code(word: Option<OsString>) -> Result<String, String> {
         .ok_or("--code needs a number such as 25, or an answer's digits such as 00000019")?;
     codes::told(number, beside).ok_or_else(|| {
         format!(
-            "no answer has code {number}; there are 0 to 13, and 21 to 29 for a text's faults. \
+            "no answer has code {number}; there are 0 to 13, 21 to 29 for a text's faults, and 31 to 38 for a proof file's. \
              Digits of an answer are read where they are whole: 00000019 is 25"
         )
     })

@@ -1,10 +1,16 @@
-//! What a code says by itself: those of frames' answers, and those of the faults of a DIMACS text.
+//! What a code says by itself: those of frames' answers, of the faults of a DIMACS text, and of a refused proof file.
 
-/// Its number, what it says, and what the number beside it is: a detail, or a position in a text.
+use std::ops::RangeInclusive;
+
+/// Its number, what it says, and what the number beside it is: a detail, a position in a text, or a line of a proof.
 struct Code(u32, &'static str, &'static str);
 
-/// From here on codes are faults of a text, and positions stand beside them.
-const FIRST_OF_TEXTS: u32 = 21;
+/// Faults of a text; positions stand beside them.
+const OF_TEXTS: RangeInclusive<u32> = 21..=29;
+/// Faults of a proof's line, which stands beside them.
+const OF_LINES: RangeInclusive<u32> = 31..=37;
+/// The end of a proof; the number of its lines stands beside it.
+const OF_AN_END: u32 = 38;
 
 const CODES: &[Code] = &[
     Code(
@@ -51,8 +57,8 @@ const CODES: &[Code] = &[
         "the model falsifies an assumption",
         "index of the first such word in the frame, from 0",
     ),
-    Code(12, "no entry is free", "always 0"),
-    Code(13, "not enough literal words are free", "always 0"),
+    Code(12, "no entry is free", OF_ROOM),
+    Code(13, "not enough literal words are free", OF_ROOM),
     Code(
         21,
         "the problem line is missing",
@@ -90,7 +96,46 @@ const CODES: &[Code] = &[
         "the text ends with more or fewer clauses than its problem line declares",
         "the text's length",
     ),
+    Code(
+        31,
+        "a malformed line",
+        "that line; an addition is \"ID LITERALS 0 HINTS 0\", a deletion \"ID d IDS 0\"",
+    ),
+    Code(
+        32,
+        "a literal past the variable count that the rules declare",
+        "that of the addition",
+    ),
+    Code(
+        33,
+        "a clause that has a variable twice, or more than 256 literals",
+        "that of the addition",
+    ),
+    Code(
+        34,
+        "an added id that is not above those of the rules and all that were added before",
+        "that of the addition",
+    ),
+    Code(35, "a deleted id that is not held", "that of the deletion"),
+    Code(
+        36,
+        "a negative hint",
+        "that of the addition; the hint may be one that is not read",
+    ),
+    Code(
+        37,
+        "a failed proof",
+        "that of the addition; a hint is not held, has a true literal or two open ones, or the hints are used up",
+    ),
+    Code(
+        38,
+        "the proof ends without an empty clause",
+        "how many the proof has",
+    ),
 ];
+
+const OF_ROOM: &str =
+    "of a frame always 0; of a proof file the line, from 1, or 0 if there is no room for the rules";
 
 fn find(number: u32) -> Option<&'static Code> {
     CODES.iter().find(|code| code.0 == number)
@@ -105,7 +150,9 @@ pub fn meaning(number: u32) -> &'static str {
 pub fn told(number: u32, beside: Option<u32>) -> Option<String> {
     let &Code(_, meaning, what) = find(number)?;
     let (name, unit) = match number {
-        FIRST_OF_TEXTS.. => ("position", ", in bytes from 0"),
+        number if OF_TEXTS.contains(&number) => ("position", ", in bytes from 0"),
+        number if OF_LINES.contains(&number) => ("line", ", from 1"),
+        OF_AN_END => ("lines", ""),
         _ => ("detail", ""),
     };
     let beside = beside.map_or(String::new(), |beside| format!(" {beside}"));
@@ -121,9 +168,23 @@ mod tests {
     /// The program says the same of a text's fault, and then how to mend it.
     #[test]
     fn the_program_has_these_words() {
-        let program = include_str!("../../crates/zahrubel_dimacs/src/main.rt");
-        for code in CODES.iter().filter(|code| code.0 >= FIRST_OF_TEXTS) {
+        let program = include_str!("../../crates/dimacs_say/src/lib.rt");
+        for code in CODES.iter().filter(|code| OF_TEXTS.contains(&code.0)) {
             assert!(program.contains(&format!("b\"{}", code.1)), "{}", code.1);
+        }
+    }
+
+    /// So does the program that checks proofs.
+    #[test]
+    fn the_checker_of_proofs_has_these_words() {
+        let source = concat!(
+            env!("CARGO_MANIFEST_DIR"),
+            "/../crates/zahrubel_lrat/src/main.rt"
+        );
+        let program = std::fs::read_to_string(source).expect("the program's source");
+        let numbers = OF_LINES.chain([12, 13, OF_AN_END]);
+        for words in numbers.map(meaning) {
+            assert!(program.contains(words), "{words}");
         }
     }
 }

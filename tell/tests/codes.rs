@@ -17,13 +17,14 @@ fn told(code: &str) -> String {
 
 #[test]
 fn every_code_is_told() {
-    let codes = (0..=13).chain(21..=29);
+    let codes = (0..=13).chain(21..=29).chain(31..=38);
     let told = codes.map(|code: u32| {
         let told = told(&code.to_string());
-        let beside = if code < 21 {
-            "    detail: "
-        } else {
-            "    position, in bytes from 0: "
+        let beside = match code {
+            ..=13 => "    detail: ",
+            21..=29 => "    position, in bytes from 0: ",
+            38 => "    lines: ",
+            _ => "    line, from 1: ",
         };
         let lines: Vec<&str> = told.lines().collect();
         assert!(lines[0].starts_with(&format!("{code}: ")), "{told}");
@@ -31,7 +32,7 @@ fn every_code_is_told() {
         assert_eq!(lines.len(), 2, "{told}");
         told
     });
-    assert_eq!(told.collect::<BTreeSet<String>>().len(), 23);
+    assert_eq!(told.collect::<BTreeSet<String>>().len(), 31);
 }
 
 #[test]
@@ -45,5 +46,23 @@ fn digits_of_an_answer_are_told() {
     assert_eq!(
         told("000000000000000200000001"),
         "0: accepted\n    detail 2: after SAT the number of variables changed, else 0\n"
+    );
+}
+
+#[test]
+fn digits_of_a_refused_proof_are_told() {
+    assert_eq!(told("00000023"), told("35"));
+    assert_eq!(
+        told("0000002300000007"),
+        "35: a deleted id that is not held\n    line 7, from 1: that of the deletion\n"
+    );
+    assert_eq!(
+        told("000000260000000c"),
+        "38: the proof ends without an empty clause\n    lines 12: how many the proof has\n"
+    );
+    assert_eq!(
+        told("0000000c00000000"),
+        "12: no entry is free\n    \
+         detail 0: of a frame always 0; of a proof file the line, from 1, or 0 if there is no room for the rules\n"
     );
 }

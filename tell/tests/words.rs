@@ -234,6 +234,14 @@ fn the_proved_program_has_the_same_words() {
     assert_eq!(told, FORMAT);
 }
 
+/// The first block of this kind, and how the page begins.
+fn block<'a>(page: &'a str, kind: &str) -> (&'a str, &'a str) {
+    let opening = format!("```{kind}\n");
+    let (before, block) = page.split_once(&opening).expect("a block");
+    let (block, _) = block.split_once("```").expect("a closed block");
+    (before, block)
+}
+
 /// The text in docs/FORMAT.md becomes the frames of the block behind it.
 #[test]
 fn the_proved_reader_writes_the_frames_of_the_page() {
@@ -241,12 +249,50 @@ fn the_proved_reader_writes_the_frames_of_the_page() {
         return;
     };
     let page = fs::read_to_string(of_the_repository("docs/FORMAT.md")).expect("a page");
-    let (before, text) = page.split_once("```cnf\n").expect("a text");
-    let (text, _) = text.split_once("```").expect("a closed block");
+    let (before, text) = block(&page, "cnf");
     let mut command = Command::new(launcher);
     command.arg("dimacs");
     let ran = run(command, text.as_bytes());
     assert_eq!((ran.status, ran.err.as_str()), (Some(0), ""));
     let behind = before.matches("```trace\n").count();
     assert_eq!(ran.out, blocks()[behind].0);
+}
+
+/// The proof in docs/FORMAT.md is accepted, and each line of the block behind it is refused with the numbers beside it.
+#[test]
+fn the_proved_checker_judges_the_proofs_of_the_page() {
+    let Some(launcher) = launcher("zahrubel_lrat") else {
+        return;
+    };
+    let page = fs::read_to_string(of_the_repository("docs/FORMAT.md")).expect("a page");
+    let (_, section) = page.split_once("## Proof files").expect("a section");
+    let room = Room::new();
+    let rules = room.file("rules.cnf", block(section, "cnf").1);
+    let check = |proof: &str| {
+        let proof = room.file("proof.lrat", proof);
+        let mut command = Command::new(&launcher);
+        command.args(["lrat", &rules, &proof]);
+        run(command, b"")
+    };
+    let ran = check(block(section, "lrat").1);
+    let accepted = (Some(0), "s VERIFIED\n", "");
+    assert_eq!((ran.status, ran.out.as_str(), ran.err.as_str()), accepted);
+    for row in block(section, "lines").1.lines() {
+        let (proof, (code, detail)) = refused(row);
+        let ran = check(&format!("{proof}\n"));
+        let digits = format!("{code:08x}{detail:08x}");
+        assert_eq!((ran.status, ran.out.as_str()), (Some(1), ""), "{row}");
+        assert_eq!(ran.err.lines().next(), Some(digits.as_str()), "{row}");
+    }
+}
+
+/// A line of a proof, and the code and detail with which it is refused.
+fn refused(row: &str) -> (&str, (u32, u32)) {
+    let (proof, beside) = row.split_once("  ").expect("columns");
+    let mut words = beside.split_whitespace();
+    let mut number = || words.next().and_then(|word| word.parse().ok());
+    (
+        proof,
+        (number().expect("a code"), number().expect("a detail")),
+    )
 }

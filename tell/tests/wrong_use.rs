@@ -49,6 +49,7 @@ const WRONG: &[(&[&str], &str)] = &[
     (&["explain", "--code", "14"], "no answer has code 14"),
     (&["explain", "--code", "20"], "no answer has code 20"),
     (&["explain", "--code", "30"], "no answer has code 30"),
+    (&["explain", "--code", "39"], "no answer has code 39"),
     (&["explain", "--code", "00000014"], "no answer has code 20"),
     (
         &["explain", "--code", "4294967317"],

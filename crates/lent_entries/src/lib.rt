@@ -138,7 +138,7 @@ fn as_entry(row: Row) -> Entry
     }
 }
 
-fn vacant_rows() -> [Row; 1280]
+pub fn vacant_rows() -> [Row; 1280]
     ensures { λ r. ⌜ r ≡ vacant-rows ⌝ }
 {
     [[0u32; 5]; 1280]

@@ -39,15 +39,16 @@ module _ (vars : ℕ) (entries : List Entry) (pool : List ℤ) (k : check-open v
       let m : length (map row-of entries) ≡ length entries = length-map entries row-of in
       let ids : List ℕ = replicate 1024 0 in
       let n : length ids ≡ 1024 = length-replicate {A = ℕ} 1024 0 in
-      working.empty-fit vars (map row-of entries) pool ids (ltb-true 0 vars (and-left (ltb 0 vars) _ in-range))
-      (leb-true vars 2048 (and-right (ltb 0 vars) _ in-range)) (omega (arith, m, most .0)) (most .1) (omega (arith, m, n, most .0))
+      working.empty-fit vars (length (map row-of entries)) (map row-of entries) pool ids (ltb-true 0 vars (and-left (ltb 0 vars) _ in-range))
+      (leb-true vars 2048 (and-right (ltb 0 vars) _ in-range)) (omega (arith, m, most .0)) (omega arith) (omega (arith, m, most .0)) (most .1)
+      (omega (arith, m, n, most .0))
 
   spells-opened : state-lent entries pool (empty vars) ≡ some (opened vars (length entries) (length pool))
   spells-opened =
       let m : length (map row-of entries) ≡ length entries = length-map entries row-of in
       let f = fits in
       let s = stored-is-state empty-fits refl (map row-of entries) refl refl in
-      let e = stored-spells empty-fits refl (map row-of entries) refl refl ∙ working.empty-spelled vars (map row-of entries) pool (replicate 1024 0)
+      let e = stored-spells empty-fits refl (map row-of entries) refl refl ∙ working.empty-spelled vars _ (map row-of entries) pool (replicate 1024 0)
       ∙ ap (λ n. opened vars n (length pool)) m in
       rw (f, s) (ap some e)
 

@@ -3,6 +3,7 @@ ghost use Prim.Native.Nat.{_+_};
 ghost use Rattle.lent_entries.specs.Lent.{clause-at, entry-at, witness-at};
 ghost use Rattle.library.specs.Exported.{OpenExported, StepExported, Names, GiveExported, EndExported};
 ghost use Rattle.library.specs.Texts.{JudgeExported, NextExported};
+ghost use Rattle.library.specs.Proofs.{CheckExported, LratGiveExported, LratOpenExported};
 use dimacs_frames::Cursor;
 use lent::Carried;
 use lent_entries::Entry;
@@ -11,6 +12,7 @@ use library_back::Counts;
 use library_back::Numbers;
 use library_back::Part;
 use library_back::Reading;
+use library_proofs::ProofState;
 
 // An opening over the lent tables, of which only the sizes matter. What is carried is written when it is accepted.
 #[no_mangle]
@@ -139,5 +141,76 @@ pub extern "C" fn zahrubel_dimacs_next(
 {
     let back = library_back::next_back(dimacs_frames::next(text, *cursor, frame), *cursor);
     *cursor = back.cursor;
+    back.numbers
+}
+
+// ---- a second vendor's proofs
+
+// A proof against the rules of a text, whole, over lent tables of its own. What is carried is written back as the call hands it back.
+#[no_mangle]
+pub extern "C" fn zahrubel_lrat_check(
+    entries: &[Entry],
+    pool: &mut [i32],
+    carried: &mut Carried,
+    cnf: &[u8],
+    proof: &[u8],
+) -> Numbers
+    ensures { λ r. ⌜ CheckExported (now (entries .entry)) (now (pool .entry)) (now (carried .entry)) (now (cnf .entry)) (now (proof .entry)) r
+        (now (pool .exit)) (now (carried .exit)) ⌝ }
+{
+    let called = call_lrat::check(entries, pool, *carried, cnf, proof);
+    *carried = called.carried;
+    library_proofs::numbers_of(called.answer)
+}
+
+// Opens lent tables for a proof in parts, with what is carried and read behind references: both are written back as the call hands them back.
+#[no_mangle]
+pub extern "C" fn zahrubel_lrat_open(
+    entries: &mut [Entry],
+    pool: &mut [i32],
+    carried: &mut Carried,
+    proof: &mut ProofState,
+    cnf: &[u8],
+) -> Numbers
+    ensures { λ r. ⌜ LratOpenExported (now (entries .entry)) (now (pool .entry)) (now (carried .entry)) (now (proof .entry)) (now (cnf .entry)) r
+        (now (entries .exit)) (now (pool .exit)) (now (carried .exit)) (now (proof .exit)) ⌝ }
+{
+    let given = call_lrat_parts::open(
+        entries,
+        pool,
+        *carried,
+        library_proofs::reading_of(*proof),
+        cnf,
+    );
+    let back = library_proofs::opening_back(given.answer, given.reading, *proof);
+    *carried = given.carried;
+    *proof = back.state;
+    back.numbers
+}
+
+// A part of the proof, in the same way; `last` is not 0 where the proof ends with it.
+#[no_mangle]
+pub extern "C" fn zahrubel_lrat_give(
+    entries: &mut [Entry],
+    pool: &mut [i32],
+    carried: &mut Carried,
+    proof: &mut ProofState,
+    part: &[u8],
+    last: u32,
+) -> Numbers
+    ensures { λ r. ⌜ LratGiveExported (now (entries .entry)) (now (pool .entry)) (now (carried .entry)) (now (proof .entry)) (now (part .entry)) last r
+        (now (entries .exit)) (now (pool .exit)) (now (carried .exit)) (now (proof .exit)) ⌝ }
+{
+    let given = call_lrat_parts::give(
+        entries,
+        pool,
+        *carried,
+        library_proofs::reading_of(*proof),
+        part,
+        library_proofs::is_set(last),
+    );
+    let back = library_proofs::part_back(given.answer, given.reading, *proof);
+    *carried = given.carried;
+    *proof = back.state;
     back.numbers
 }

@@ -15,17 +15,18 @@ use Rattle.table.specs.declared.Table.{Table}
 abbrev pub empty : ℕ → ℕ → Table
 empty vars n = record { vars = vars; highest = 0; entries = n; count = 0; gone = 0; words = 0; depth = 0; top = 0 }
 
-module _ (vars : ℕ) (rows : List Row) (pool : List ℤ) (stack : List ℕ) where
-  pub empty-fit : 0 < vars → vars ≤ 2048 → length rows ≤ 1024 → length pool ≤ 8192 → length rows ≤ length stack → Fit (empty vars (length rows)) rows pool stack
+module _ (vars n : ℕ) (rows : List Row) (pool : List ℤ) (stack : List ℕ) where
+  pub empty-fit : 0 < vars → vars ≤ 2048 → n ≤ 1024 → n ≤ length rows → length rows ≤ 2048 → length pool ≤ 8192 → n ≤ length stack
+      → Fit (empty vars n) rows pool stack
   unfolding only
-  empty-fit low high entries words ids = record {
+  empty-fit low high entries enough most words ids = record {
     vars-fit = (low, high);
     highest-fit = omega arith;
     entries-lent = entries;
-    rows-lent = omega arith;
+    rows-lent = most;
     pool-lent = words;
     stack-lent = ids;
-    entries-fit = omega arith;
+    entries-fit = enough;
     rows-fit = omega arith;
     held-fit = omega arith;
     pool-fit = omega arith;
@@ -43,6 +44,6 @@ module _ (vars : ℕ) (rows : List Row) (pool : List ℤ) (stack : List ℕ) whe
         };
   }
 
-  pub empty-spelled : spelled (empty vars (length rows)) rows pool stack ≡ opened vars (length rows) (length pool)
+  pub empty-spelled : spelled (empty vars n) rows pool stack ≡ opened vars n (length pool)
   unfolding only
   empty-spelled = refl

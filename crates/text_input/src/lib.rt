@@ -1,4 +1,4 @@
-// Standard input as one text, in memory of the program's own.
+// An input as one text, in memory of the program's own.
 ghost use mathlib.Core.Path.{_≡_};
 ghost use Prim.Native.Nat.{_+_, _≤_};
 ghost use lib.ListN.{length};
@@ -25,12 +25,12 @@ struct Got {
 }
 
 // One read, into the buffer's bytes from `done` on.
-fn read_on(buf: &mut [u8], done: usize) -> Got
+fn read_on(fd: i32, buf: &mut [u8], done: usize) -> Got
     requires { ⌜ done ≤ length (now buf) ⌝ }
     ensures { λ r. ⌜ done + r .count ≤ length (now (buf .entry)) ⌝ }
 {
     let rest = &mut buf[done..];
-    let got = libc::read(0, rest);
+    let got = libc::read(fd, rest);
     Got {
         count: io::count(got, rest),
         failed: got < 0,
@@ -48,28 +48,28 @@ fn ended(failed: bool, done: usize) -> Input
 }
 
 // The buffer is full: the input is whole if no byte is left.
-fn filled(done: usize) -> Input
+fn filled(fd: i32, done: usize) -> Input
     ensures { λ r. ⌜ Long done r ⌝ }
 {
     let mut more = [0u8; 1];
-    let got = read_on(&mut more, 0);
+    let got = read_on(fd, &mut more, 0);
     if got.count == 0 {
         return ended(got.failed, done);
     }
     Input::Larger
 }
 
-// Reads standard input to its end.
-pub fn read_whole(buf: &mut [u8]) -> Input
+// Reads the input behind a descriptor to its end.
+pub fn read_whole(fd: i32, buf: &mut [u8]) -> Input
     ensures { λ r. ⌜ InsideInput (now (buf .exit)) r ⌝ }
 {
     let mut done: usize = 0;
     while done < buf.len() {
-        let got = read_on(buf, done);
+        let got = read_on(fd, buf, done);
         if got.count == 0 {
             return ended(got.failed, done);
         }
         done += got.count;
     }
-    filled(done)
+    filled(fd, done)
 }

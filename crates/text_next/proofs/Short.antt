@@ -11,7 +11,7 @@ use lib.ListN.{length, getD, replicate}
 use lib.Seq.{slice, slice-cons, slice-empty, length-slice}
 use borrow.Author.Tests.{ne-eqb, eqb-true, eqb-false, leb-true}
 use Rattle.rules.specs.Lists.{all-pass}
-use Rattle.rules.proofs.Lists.{by-cases, from-index, and-left, and-right, all-split}
+use Rattle.rules.proofs.Lists.{by-cases, true-false, from-index, and-left, and-right, all-split}
 use Rattle.text.specs.Words.{is-blank}
 use Rattle.text.specs.Places.{word-at}
 use Rattle.text.proofs.Slices.{slice-join}
@@ -100,16 +100,23 @@ module _ (text : List ℕ) (at x n : ℕ) (room : at + 8 ≤ length text) (bytes
     quick-told true sign m o l = record {
       number = λ t.
           let b = and-left (is-blank (getD text (at + n) 0)) (leb sign v) t in
-          let k : 0 < v = omega (arith, leb-true sign v (and-right (is-blank (getD text (at + n) 0)) (leb sign v) t)) in
+          let k = no-zero t in
           let minus = eqb-true (x % 256) 45 m in
           let d = all-digits (x + 3 * sign) bits e n some-byte few place l a (minus-front sign o minus) in
           let numeral = short-numeral 1 (at + 1) (omega arith) d b (lone-minus (own-value 1 (at + 1) (omega arith) d) k) in
           minus-told text at (omega arith) (sym first-byte ∙ minus) numeral .number (rw (ne-eqb v 0 (λ z. omega arith)));
+      small = λ t. said .1;
+      signed = λ t m. no-zero t;
     }
+      where
+        no-zero : (is-blank (getD text (at + n) 0) && leb sign v) ≡ true → 0 < v
+        no-zero t = omega (arith, leb-true sign v (and-right (is-blank (getD text (at + n) 0)) (leb sign v) t))
     quick-told false sign m o l = record {
       number = λ t.
           let b = and-left (is-blank (getD text (at + n) 0)) (leb sign v) t in
           let d = all-digits (x + 3 * sign) bits e n some-byte few place l a (plain-front sign o) in
           plain-told text at (omega arith) (λ z. eqb-false (x % 256) 45 m (first-byte ∙ z))
           (short-numeral 0 at (omega arith) d b (λ z. omega arith)) .number refl;
+      small = λ t. said .1;
+      signed = λ t m. true-false m refl;
     }

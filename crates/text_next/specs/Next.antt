@@ -14,9 +14,11 @@ use Rattle.text_next.specs.declared.NextWord.{NextWord}
 
 -- ---- a short word
 
--- a number is told; else nothing
+-- a number below 10^8 is told, and never -0; else nothing
 pub record QuickTold (w : List ℕ) (at : ℕ) (r : Integer) : Type 0 where
   pub number : r .number ≡ true → (n : ℕ) × (integer-of w ≡ some (with-sign (r .minus) n)) × (r .value ≡ capped n) × (r .end ≡ at + length w)
+  pub small : r .number ≡ true → r .value < 100000000
+  pub signed : r .number ≡ true → r .minus ≡ true → 0 < r .value
 
 -- ---- the next word behind a word
 

@@ -69,7 +69,7 @@ fn said_by(e: u64) -> u64
 }
 
 // A word of at most seven bytes, and a blank behind it, as a number; nothing is told of any other. A minus is 3 less than the digit 0.
-fn quick(text: &[u8], at: usize) -> Integer
+pub fn quick(text: &[u8], at: usize) -> Integer
     requires { ⌜ at + 8 ≤ length (now text) ⌝ }
     ensures { λ r. ⌜ QuickTold (word-at at (now (text .entry))) at r ⌝ }
 {

@@ -10,14 +10,14 @@ mod field;
 mod histogram;
 mod large;
 mod layout;
-mod numbers;
+pub(crate) mod numbers;
 pub mod pairs;
 mod pen;
 pub mod plant;
 mod rules;
 pub mod run;
 mod sound;
-mod words;
+pub(crate) mod words;
 
 use crate::random::Random;
 
@@ -25,6 +25,11 @@ pub use field::{find_field, Field, Variant, FIELDS};
 pub use histogram::{Histogram, NUMBERS};
 pub use large::large;
 pub use rules::Rules;
+
+/// Rules as a sound text, written in any way.
+pub fn written(rules: &Rules, random: &mut Random) -> Vec<u8> {
+    sound::written(rules, random)
+}
 
 /// A kind of text.
 pub struct Class {

@@ -1,10 +1,15 @@
 //! Classes of sound texts.
 
 use super::field::FIELDS;
-use super::layout::{lay, Style, COMMENTED, CR, CRLF, FREE, PLAIN};
+use super::layout::{any_style, lay, Style, COMMENTED, CR, CRLF, FREE, PLAIN};
 use super::rules::{Draft, Rules};
 use crate::random::Random;
 use crate::terms::MOST_VARIABLES;
+
+/// Rules in any style.
+pub fn written(rules: &Rules, random: &mut Random) -> Vec<u8> {
+    lay(&Draft::of(rules).marks(), any_style(random), random)
+}
 
 fn laid(style: &Style, random: &mut Random) -> Vec<u8> {
     let mut draft = Draft::of(&Rules::any(random));

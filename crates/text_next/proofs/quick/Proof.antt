@@ -31,6 +31,11 @@ module _ (c : tie.Else1) where
       let k = or-false (ltb bits 8) (ltb 63 bits) (l .0) in
       (ltb-false bits 8 (k .0), ltb-false 63 bits (k .1), sym (c .before .are-digits .ensures) ∙ not-false (l .1))
 
+returns : tie.Need-returns
+returns c =
+    let f = c .no-integer .ensures in
+    record { number = λ t. true-false t f; small = λ t. true-false t f; signed = λ t m. true-false t f }
+
 returns-2 : tie.Need-returns-2
 returns-2 c =
     let p = c .before .before .before in
@@ -56,7 +61,7 @@ quick-spec =
     last-digits-requires
     (λ c κs. search needs)  -- are-digits-requires
     (λ c κs. search needs)  -- no-integer-requires
-    (λ c. record { number = λ t. true-false t (c .no-integer .ensures) })  -- returns
+    returns
     (λ c κs. passed c .2)  -- said-by-requires
     (λ c. search needs)  -- add-end
     (λ c. omega (arith, passed (c .before .before)))  -- shared-slice-read-is-blank

@@ -10,8 +10,8 @@ use Rattle.zahrubel_dimacs.proofs.main.Statement.{statement}
 use Rattle.zahrubel_dimacs.proofs.main.Tie as tie
 
 -- the input was read whole: it lies inside the buffer
-inside : (c : tie.After-known-told) → c .before .input .given .0 .0 ≤ length (c .before .before .before .before .read-whole .last .0)
-inside c = subst (λ (r : Input). InsideInput (c .before .before .before .before .read-whole .last .0) r) (c .before .input .given .1)
+inside : (c : tie.After-known-told) → c .before .input .given .0 .0 ≤ length (c .before .before .before .before .read-whole .last .1 .0)
+inside c = subst (λ (r : Input). InsideInput (c .before .before .before .before .read-whole .last .1 .0) r) (c .before .input .given .1)
     (c .before .before .before .before .read-whole .ensures)
 
 pub main-spec : {M : Type 1} → statement M

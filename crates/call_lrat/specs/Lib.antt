@@ -1,0 +1,2 @@
+-- What checking a proof over lent tables comes to, for every input.
+pub mod Checks

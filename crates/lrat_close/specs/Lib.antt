@@ -1,0 +1,2 @@
+-- What is told of a line that is closed.
+pub mod Closes

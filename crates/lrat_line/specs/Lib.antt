@@ -1,0 +1,2 @@
+-- What is told of the words of a line.
+pub mod Lines

@@ -1,0 +1,2 @@
+-- What checking a proof that is read in parts comes to.
+pub mod Serving

@@ -1,0 +1,2 @@
+-- What is told of the bytes of a word.
+pub mod Taken
