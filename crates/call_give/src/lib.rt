@@ -1,5 +1,6 @@
 // Parts of the input over the lent tables: taken in once a part, fed line by line, and put back where a line was an accepted change; and the end of input. Any
 // bits may be handed in.
+#![tactic(auto)]
 ghost use Rattle.std.specs.Prelude.{◌≡◌, ◌&&◌, leb, length};
 ghost use Rattle.rules.specs.Answers.{lent};
 ghost use Rattle.line_read.specs.Parts.{largest_reply};
@@ -15,7 +16,7 @@ use rules::{Answer, Fault};
 use table::{Row, Table};
 
 // The answer, what is carried and read after the part, how many of its bytes were taken, and how many are written to the out buffer.
-#[derive(Drop)]
+#[derive(Clone, Copy)]
 pub struct Given {
     pub answer: Answer,
     pub carried: Carried,
@@ -25,7 +26,7 @@ pub struct Given {
 }
 
 // The same, and how many rows are to be put back.
-#[derive(Drop)]
+#[derive(Clone, Copy)]
 struct RanPart {
     pub given: Given,
     pub count: usize,
@@ -178,7 +179,7 @@ pub fn give(
 // ---- the end of input
 
 // The answer, and how many bytes are written to the out buffer.
-#[derive(Drop)]
+#[derive(Clone, Copy)]
 pub struct Ended {
     pub answer: Answer,
     pub written: usize,

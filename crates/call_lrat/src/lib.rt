@@ -1,4 +1,5 @@
 // A proof checked whole against the rules of a text, over lent tables of its own: opened empty, and left so whatever the outcome.
+#![tactic(auto)]
 ghost use Rattle.std.specs.Prelude.{◌≡◌};
 ghost use Rattle.table.specs.Spelled.{Fit, spelled};
 ghost use Rattle.lrat.specs.Checking as paper;
@@ -13,7 +14,7 @@ use lrat_fill::FilledText;
 use table::{Row, Table};
 
 // The answer, and what is carried after it.
-#[derive(Drop)]
+#[derive(Clone, Copy)]
 pub struct LratCalled {
     pub answer: LratAnswer,
     pub carried: Carried,

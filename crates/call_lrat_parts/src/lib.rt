@@ -1,5 +1,6 @@
 // A proof checked in parts over lent tables of its own, so that one of any length needs a fixed amount of memory: opened with the rules of a text, given part
 // by part, and left empty once its answer is known. Any bits may be handed in.
+#![tactic(auto)]
 ghost use Rattle.std.specs.Prelude.{◌≡◌, true, length};
 ghost use Rattle.rules.specs.Answers.{lent, check_open};
 ghost use Rattle.table.specs.Spelled.{Fit, spelled};
@@ -20,7 +21,7 @@ use rules::Check;
 use table::{Row, Table};
 
 // What is read of a proof: the reader, the literals of the line on its way, and which literals are false under its hints.
-#[derive(Drop)]
+#[derive(Clone, Copy)]
 pub struct ProofReading {
     pub reader: ProofReader,
     pub lits: [i32; 256],
@@ -29,7 +30,7 @@ pub struct ProofReading {
 }
 
 // The answer, what is carried and what is read after a call.
-#[derive(Drop)]
+#[derive(Clone, Copy)]
 pub struct LratGiven {
     pub answer: LratAnswer,
     pub carried: Carried,
@@ -37,7 +38,7 @@ pub struct LratGiven {
 }
 
 // The same, and how many rows are to be put back.
-#[derive(Drop)]
+#[derive(Clone, Copy)]
 struct RanProof {
     pub given: LratGiven,
     pub count: usize,

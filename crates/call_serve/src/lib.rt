@@ -1,4 +1,5 @@
 // Standard input served on the working table: read, fed and answered to its end. The lent table is taken in once, and put back after it.
+#![tactic(auto)]
 ghost use Rattle.std.specs.Prelude.{◌≡◌, List, ℕ, ◌≤◌, length};
 ghost use Rattle.std.proofs.Math.Option.{some};
 ghost use Rattle.rules.specs.Answers.{opened};
@@ -15,7 +16,7 @@ use table::{Row, Table};
 
 // How far a part was fed, the reader and the numbers beside the tables after it, whether a line was an accepted change, and whether every write was taken
 // whole.
-#[derive(Drop)]
+#[derive(Clone, Copy)]
 struct Pumped {
     pub taken: usize,
     pub reader: Reader,
@@ -85,7 +86,7 @@ fn conclude(got: isize, r: Reader, out: &mut [u8])
 }
 
 // The numbers beside the tables at the end of the input, and whether a line of it was an accepted change.
-#[derive(Drop)]
+#[derive(Clone, Copy)]
 struct Attended {
     pub table: Table,
     pub altered: bool,
@@ -134,7 +135,7 @@ fn attend(rows: &mut [Row], pool: &mut [i32], stack: &mut [u32], t: Table) -> At
 }
 
 // What is carried after the input, and how many rows are to be put back.
-#[derive(Drop)]
+#[derive(Clone, Copy)]
 struct Served {
     pub carried: Carried,
     pub count: usize,

@@ -1,4 +1,5 @@
 // The public calls over the lent tables. Any bits may be handed in.
+#![tactic(auto)]
 ghost use Rattle.std.specs.Prelude.{◌≡◌, ◌≤◌, length};
 ghost use Rattle.call_step.specs.Calls.{Opening, Stepping};
 ghost use Rattle.call_step.specs.Running.{StepRun, Running, step_left, step_stored};
@@ -11,7 +12,7 @@ use step_outcome::Written;
 use table::{Row, Table};
 
 // What a call comes to, and how many rows are to be put back.
-#[derive(Drop)]
+#[derive(Clone, Copy)]
 struct RanFrame {
     pub called: Called,
     pub count: usize,

@@ -1,7 +1,8 @@
 // The answers that the definitions of DIMACS text and the code share.
+#![tactic(auto)]
 
 // What is wrong with a text, a case for each number from 21 to 29, with the place where the first faulty word starts.
-#[derive(Drop)]
+#[derive(Clone, Copy)]
 pub enum TextFault {
     NoProblemLine(usize),
     SecondProblemLine(usize),
@@ -15,7 +16,7 @@ pub enum TextFault {
 }
 
 // What a word behind the problem line is by itself: a fault, the 0 that closes a clause, or a literal.
-#[derive(Drop)]
+#[derive(Clone, Copy)]
 pub enum ClauseWord {
     Wrong(TextFault),
     Closing,
@@ -23,7 +24,7 @@ pub enum ClauseWord {
 }
 
 // What is told of a text: V and the number of its clauses, or its first fault.
-#[derive(Drop)]
+#[derive(Clone, Copy)]
 pub enum TextAnswer {
     Sound(u32, usize),
     Faulty(TextFault),

@@ -1,4 +1,5 @@
 // A fault of a text in numbers: its code and its position.
+#![tactic(auto)]
 ghost use Rattle.std.specs.Prelude.{◌≡◌};
 ghost use Rattle.dimacs.specs.Reading.{fault_numbers};
 

@@ -1,4 +1,5 @@
 // The clauses of a text, handed out one by one as ADD frames.
+#![tactic(auto)]
 ghost use Rattle.std.specs.Prelude.{◌≡◌, false, [], ◌+◌, ◌≤◌, length};
 ghost use Rattle.table_slices.specs.Writes.{over};
 ghost use Rattle.text.specs.Words.{words_from};
@@ -13,14 +14,14 @@ use dimacs_problem::Problem;
 
 // Behind the clause with this id, which ends at this place. Before the first clause the id is 0, and the place is of no account.
 #[repr(C)]
-#[derive(Drop)]
+#[derive(Clone, Copy)]
 pub struct Cursor {
     pub at: usize,
     pub id: u64,
 }
 
 // A frame of so many words, and the cursor behind it. Else no clause is left; the text has a fault; the buffer has fewer than 258 words; or no id is left.
-#[derive(Drop)]
+#[derive(Clone, Copy)]
 pub enum Yield {
     Frame(usize, Cursor),
     NoneLeft,

@@ -1,4 +1,5 @@
 // The clauses of a text, word by word, and the text judged.
+#![tactic(auto)]
 ghost use Rattle.std.specs.Prelude.{◌≡◌, true, cond, ◌&&◌, [], ◌∷◌, ◌+◌, ◌≤◌, ◌<◌, length};
 ghost use Rattle.text.specs.Places.{word_at, Behind};
 ghost use Rattle.dimacs.specs.Reading.{spells, read_text, judged_text};
@@ -65,7 +66,7 @@ fn stops(all: bool, stamps: &mut [u64], v: usize, stamp: u64) -> bool
 }
 
 // What reading comes to: the literals of one clause and where its 0 ends; how many clauses there are, all of them closed; or a fault.
-#[derive(Drop)]
+#[derive(Clone, Copy)]
 pub enum Scanned {
     Closed(usize, usize),
     Ended(usize),

@@ -1,4 +1,5 @@
 // The clauses of a text as lines of ADD frames, as many at a time as a lent buffer has room for.
+#![tactic(auto)]
 ghost use Rattle.std.specs.Prelude.{◌≡◌, ◌≤◌, length};
 ghost use Rattle.dimacs_print.specs.Printed.{Filling};
 
@@ -6,7 +7,7 @@ use dimacs_frames::{Cursor, Yield};
 
 // The lines stand in the buffer before a place. Either it has no room for one more longest line, and the text goes on behind the cursor; or the last call
 // handed out no frame, and told why.
-#[derive(Drop)]
+#[derive(Clone, Copy)]
 pub enum Filled {
     More(usize, Cursor),
     Ended(usize, Yield),

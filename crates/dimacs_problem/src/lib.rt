@@ -1,4 +1,5 @@
 // The problem line of a text: p cnf V C.
+#![tactic(auto)]
 ghost use Rattle.std.specs.Prelude.{◌≡◌, false, [], ◌∷◌, ◌≤◌, length, drop};
 ghost use Rattle.text.specs.Words.{words_from};
 ghost use Rattle.text.specs.Places.{word_at};
@@ -32,7 +33,7 @@ fn is_cnf(text: &[u8], at: usize) -> bool
 }
 
 // A number of the problem line: its value, where it starts and ends. Else where the word starts that stands in its place, or the text's length.
-#[derive(Drop)]
+#[derive(Clone, Copy)]
 enum CountWord {
     Counted(u64, usize, usize),
     Uncounted(usize),
@@ -56,7 +57,7 @@ fn read_number(text: &[u8], from: usize) -> CountWord
 }
 
 // V, the clause count as far as it can be met, and where the fourth word ends; or the fault.
-#[derive(Drop)]
+#[derive(Clone, Copy)]
 pub enum Problem {
     Declared(u32, u64, usize),
     Undeclared(TextFault),

@@ -1,4 +1,5 @@
 // A text's fault on standard error: a line of digits for programs, and one in words for people.
+#![tactic(auto)]
 ghost use Rattle.std.specs.Prelude.{◌≤◌, length};
 
 use dimacs::TextFault;

@@ -1,4 +1,5 @@
 // What SAT and UNSAT, the frames with assumptions, ask of the working table, in document 01's order: a judgment each. Everything is lent by &.
+#![tactic(auto)]
 ghost use Rattle.std.specs.Prelude.{◌≡◌, true, ◌≤◌, length};
 ghost use Rattle.rules.specs.Lists.{all_pass};
 ghost use Rattle.rules.specs.Terms.{in_range};
@@ -13,7 +14,7 @@ use rules::{Check, Fault};
 use table::{Row, Table};
 
 // SAT's judgment, and where its checks pass the words of the offered assignment.
-#[derive(Drop)]
+#[derive(Clone, Copy)]
 pub struct Offer {
     pub judged: Judged,
     pub offered: [u64; 32],

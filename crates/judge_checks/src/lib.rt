@@ -1,4 +1,5 @@
 // What a judgment is, and the single checks that the judgments are made of, each with what the paper says of it. Everything is lent by &.
+#![tactic(auto)]
 ghost use Rattle.std.specs.Prelude.{◌≡◌, ◌≤◌, ltb, length};
 ghost use Rattle.rules.specs.Answers.{◌then◌, need, unseen, free_entry, free_words};
 ghost use Rattle.rules.specs.Answers as paper;
@@ -12,7 +13,7 @@ use rules::{Check, Fault, Verdict};
 use table::{Found, Row, Table};
 
 // What a frame's checks come to, and the row of the held clause that it names: 0 where it names none, and where it is refused.
-#[derive(Drop)]
+#[derive(Clone, Copy)]
 pub struct Judged {
     pub check: Check,
     pub row: usize,

@@ -1,4 +1,5 @@
 // What hints prove of a target: its literals are made false, and propagation does the rest. The two arrays `plus` and `minus` are those of `judge_propagate`.
+#![tactic(auto)]
 ghost use Rattle.std.specs.Prelude.{◌≡◌, true, not, map, neg_ℤ};
 ghost use Rattle.rules.specs.Lists.{all_pass, only};
 ghost use Rattle.rules.specs.Terms.{in_range, opposes};
@@ -14,7 +15,7 @@ use rules::Verdict;
 use table::Row;
 
 // A target made false: it holds a literal and its opposite, or these literals are false.
-#[derive(Drop)]
+#[derive(Clone, Copy)]
 struct Falses {
     pub opposed: bool,
     pub plus: [u64; 32],

@@ -1,5 +1,6 @@
 // Propagation by hints. The false literals are a set in two arrays: `plus` has the variables of its positive literals, which are false, and `minus` those of
 // its negative literals, which are true.
+#![tactic(auto)]
 ghost use Rattle.std.specs.Prelude.{◌≡◌};
 ghost use Rattle.rules.specs.Propagation.{run};
 ghost use Rattle.lit_sets.specs.Words.{set_of};
@@ -10,7 +11,7 @@ use rules::Verdict;
 use table::{Found, Row};
 
 // The allowed set: the clauses whose place is below `places`, but for one id.
-#[derive(Drop)]
+#[derive(Clone, Copy)]
 pub struct Scope {
     pub places: u32,
     pub except: u32,
@@ -51,7 +52,7 @@ fn pick(rows: &[Row], scope: Scope, hint: i32) -> Found
 }
 
 // How propagation ended, and which literals were false then.
-#[derive(Drop)]
+#[derive(Clone, Copy)]
 pub struct Propagated {
     pub verdict: Verdict,
     pub plus: [u64; 32],

@@ -1,4 +1,5 @@
 // What is lent and carried: what is carried on of a working table, that no two parts of the pool overlap, and that the stack lists each stacked clause once.
+#![tactic(auto)]
 ghost use Rattle.std.specs.Prelude.{◌≡◌, true, ◌&&◌, List, ◌<◌, ◌≤◌, eqb, ℤ, length};
 ghost use Rattle.rules.specs.Answers.{lent};
 ghost use Rattle.rules.specs.Lists.{all_pass, only};
@@ -13,7 +14,7 @@ use table::{Found, PLACE, Row, START, Table};
 // What goes beside the lent tables: V, the highest id accepted, how many entries are held, how many words they hold, how many ids are on the stack,
 // and the stack's ids from its bottom.
 #[repr(C)]
-#[derive(Drop)]
+#[derive(Clone, Copy)]
 pub struct Carried {
     pub vars: u32,
     pub highest: u32,
@@ -24,7 +25,7 @@ pub struct Carried {
 }
 
 // The answer, and what is carried after it.
-#[derive(Drop)]
+#[derive(Clone, Copy)]
 pub struct Called {
     pub answer: Answer,
     pub carried: Carried,

@@ -1,5 +1,6 @@
 // The lent table of clause entries, and the few functions over it: an entry is taken out and handed to a covered function; the table is
 // taken in as the rows that the working table is made of, and put back.
+#![tactic(auto)]
 ghost use Rattle.std.specs.Prelude.{◌≡◌, map, ◌+◌, ◌≤◌, min, length, take};
 ghost use Rattle.table_slices.specs.Writes.{over};
 ghost use Rattle.table.specs.Spelled.{part};
@@ -9,7 +10,7 @@ use table::{ID, LENGTH, PLACE, Row, START, WITNESS};
 
 // The entry of a clause, as lent: its place and where its literals lie; `witness` counts the witness literals, which follow the clause's own.
 #[repr(C)]
-#[derive(Drop)]
+#[derive(Clone, Copy)]
 pub struct Entry {
     pub id: u32,
     pub place: u32,
@@ -49,7 +50,7 @@ fn wide(x: u32) -> usize
 }
 
 // Where a part of the pool lies: `length` words from `start` on.
-#[derive(Drop)]
+#[derive(Clone, Copy)]
 pub struct Span {
     pub start: usize,
     pub length: usize,

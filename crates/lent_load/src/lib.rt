@@ -1,4 +1,5 @@
 // Whether what is lent and carried is a state, and the working table made of it.
+#![tactic(auto)]
 ghost use Rattle.std.specs.Prelude.{◌≡◌, true, ◌≤◌, length};
 ghost use Rattle.rules.specs.Lists.{all_pass};
 ghost use Rattle.table.specs.Spelled.{Rising};
@@ -8,7 +9,7 @@ ghost use Rattle.lent_load.specs.Loads.{Loads, StackLent};
 use lent::Carried;
 use table::{Row, Table};
 
-#[derive(Drop)]
+#[derive(Clone, Copy)]
 pub enum Loaded {
     Working(Table),
     NoState,

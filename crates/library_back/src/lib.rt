@@ -1,4 +1,5 @@
 // What goes back over the archive's calls: an answer as its two numbers, the parts of the pool, what is read, what a text came to.
+#![tactic(auto)]
 ghost use Rattle.std.specs.Prelude.{◌≡◌, ◌+◌, cond};
 ghost use Rattle.lent_entries.specs.Lent.{Spans};
 ghost use Rattle.dimacs.specs.Reading.{fault_numbers};
@@ -16,7 +17,7 @@ use rules::Answer;
 
 // "Each answer is a code and a detail." Two words of 64 bits go back in registers on every processor.
 #[repr(C)]
-#[derive(Drop)]
+#[derive(Clone, Copy)]
 pub struct Numbers {
     pub code: u64,
     pub detail: u64,
@@ -58,7 +59,7 @@ pub fn after_opening(opened: Called, before: Carried) -> Carried
 
 // A part of the pool: `length` words from `start` on.
 #[repr(C)]
-#[derive(Drop)]
+#[derive(Clone, Copy)]
 pub struct Part {
     pub start: u64,
     pub length: u64,
@@ -89,7 +90,7 @@ pub fn witness_part(words: usize, e: Entry) -> Part
 
 // What is read of the line that is not closed yet: spoilt where the last word is not 0.
 #[repr(C)]
-#[derive(Drop)]
+#[derive(Clone, Copy)]
 pub struct Reading {
     pub digits: u64,
     pub word: u64,
@@ -98,7 +99,7 @@ pub struct Reading {
 
 // How many bytes of the part were taken, and how many were written to the out buffer.
 #[repr(C)]
-#[derive(Drop)]
+#[derive(Clone, Copy)]
 pub struct Counts {
     pub taken: u64,
     pub written: u64,
@@ -148,7 +149,7 @@ fn reading_after(answer: Answer, reader: Reader, lent: Reading) -> Reading
 }
 
 // What a part came to, as it goes back beside what is carried.
-#[derive(Drop)]
+#[derive(Clone, Copy)]
 pub struct PartHanded {
     pub numbers: Numbers,
     pub reading: Reading,
@@ -175,7 +176,7 @@ pub fn hand_back(
 }
 
 // What the end of input came to, as it goes back.
-#[derive(Drop)]
+#[derive(Clone, Copy)]
 pub struct EndHanded {
     pub numbers: Numbers,
     pub written: u64,
@@ -195,7 +196,7 @@ pub fn end_back(ended: Ended) -> EndHanded
 
 // What a text without fault has: V, and so many clauses.
 #[repr(C)]
-#[derive(Drop)]
+#[derive(Clone, Copy)]
 pub struct CnfCounts {
     pub vars: u64,
     pub clauses: u64,
@@ -211,7 +212,7 @@ fn numbers_of_fault(fault: TextFault) -> Numbers
 }
 
 // What judging a text came to, as it goes back.
-#[derive(Drop)]
+#[derive(Clone, Copy)]
 pub struct CnfHanded {
     pub numbers: Numbers,
     pub cnf: CnfCounts,
@@ -237,7 +238,7 @@ pub fn judge_back(answer: TextAnswer, before: CnfCounts) -> CnfHanded
 }
 
 // What a text yielded, as it goes back.
-#[derive(Drop)]
+#[derive(Clone, Copy)]
 pub struct NextHanded {
     pub numbers: Numbers,
     pub cursor: Cursor,

@@ -1,4 +1,5 @@
 // What goes in and back over the archive's calls on proofs.
+#![tactic(auto)]
 ghost use Rattle.std.specs.Prelude.{◌≡◌, cond, not, eqb};
 ghost use Rattle.library_proofs.specs.Handed.{handed_part, handed_opening, lrat_numbers, reading_of, state_of};
 
@@ -26,7 +27,7 @@ pub fn numbers_of(answer: LratAnswer) -> Numbers
 
 // The fields of a reading, flat; 0 for no and anything else for yes, where one is asked for.
 #[repr(C)]
-#[derive(Drop)]
+#[derive(Clone, Copy)]
 pub struct ProofState {
     pub lines: u64,
     pub value: u64,
@@ -121,7 +122,7 @@ fn state_of(r: ProofReading) -> ProofState
 
 // ---- what goes back
 
-#[derive(Drop)]
+#[derive(Clone, Copy)]
 pub struct ProofHanded {
     pub numbers: Numbers,
     pub state: ProofState,

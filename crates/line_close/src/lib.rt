@@ -1,4 +1,5 @@
 // 0A: a line is closed. It is judged, applied and answered.
+#![tactic(auto)]
 ghost use Rattle.std.specs.Prelude.{◌+◌, ◌≤◌, length};
 ghost use Rattle.line_read.specs.Lines as paper;
 ghost use Rattle.line_read.specs.Machine.{line_of};
@@ -32,7 +33,7 @@ fn put_reply(
 }
 
 // The place behind the answer, the numbers beside the tables after the line, and whether it was an accepted change.
-#[derive(Drop)]
+#[derive(Clone, Copy)]
 pub struct Closed {
     pub at: usize,
     pub table: Table,

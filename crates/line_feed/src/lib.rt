@@ -1,4 +1,5 @@
 // Lines fed to the checker: read, and each one closed, as the bytes come.
+#![tactic(auto)]
 ghost use Rattle.std.specs.Prelude.{◌≤◌, length};
 ghost use Rattle.std.proofs.Math.Seq.{slice};
 ghost use Rattle.line_read.specs.Machine.{line_of, session_of};
@@ -11,7 +12,7 @@ use line_read::Reader;
 use table::{Row, Table};
 
 // How far the part is taken, the place behind the answers, reader and numbers after them, and whether a line was an accepted change.
-#[derive(Drop)]
+#[derive(Clone, Copy)]
 pub struct Fed {
     pub from: usize,
     pub at: usize,

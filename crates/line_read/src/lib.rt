@@ -1,11 +1,12 @@
 // Hexadecimal lines: a reader that takes bytes as they come.
+#![tactic(auto)]
 ghost use Rattle.std.specs.Prelude.{◌≡◌, false, ◌≤◌, length};
 ghost use Rattle.line_hex.specs.Hex.{Values};
 ghost use Rattle.line_read.specs.Machine.{line_of, push, is_frame};
 ghost use Rattle.line_read.specs.Lent.{Took};
 
 // What is read of the line that is not closed yet. Its whole words are in the lent frame buffer.
-#[derive(Drop)]
+#[derive(Clone, Copy)]
 pub struct Reader {
     pub digits: usize,
     pub word: u64,
@@ -66,7 +67,7 @@ pub fn push_byte(r: Reader, frame: &mut [i32], b: u8) -> Reader
     }
 }
 
-#[derive(Drop)]
+#[derive(Clone, Copy)]
 pub struct Taken {
     pub from: usize,
     pub reader: Reader,

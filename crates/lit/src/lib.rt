@@ -1,4 +1,6 @@
 // The signed words of a frame, as literals, as numbers, as names of clauses. No other crate looks at a sign.
+#![tactic(auto)]
+
 ghost use Rattle.std.specs.Prelude.{◌≡◌, true, cond, ◌≤◌, pos, nat_abs, neg_ℤ};
 ghost use Rattle.rules.specs.Terms.{in_range, same};
 ghost use Rattle.rules.specs.Frames as paper;

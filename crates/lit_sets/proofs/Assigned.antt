@@ -14,7 +14,7 @@ use Rattle.rules.specs.Terms.{Assignment, upd}
 use Rattle.rules.specs.Answers.{unseen}
 use Rattle.rules.proofs.Lists.{by_cases}
 use Rattle.lit_sets.specs.Words.{bit, assigned}
-use Rattle.lit_sets.proofs.Bits.{bit_xor, bit_none, bit_power, bits_fixed}
+use Rattle.lit_sets.proofs.Bits.{xor_bit, bit_none, bit_power, bits_fixed}
 
 -- ---- one bit turned over
 
@@ -43,7 +43,7 @@ turned_bit ws i m h = by_cases (eqb (m / 64) (i / 64))
     (λ t.
     let q = eqb-true (m / 64) (i / 64) t in
     let s = get_or-set_same ws (i / 64) (bit_xor (get_or ws (i / 64) 0) (2 ^ (i % 64))) 0 h in
-    rw (q, s, bit_xor (get_or ws (i / 64) 0) (2 ^ (i % 64)) (m % 64), bit_power (i % 64) (m % 64), same_word i m q))
+    rw (q, s, xor_bit (get_or ws (i / 64) 0) (2 ^ (i % 64)) (m % 64), bit_power (i % 64) (m % 64), same_word i m q))
     (λ f.
     let n = eqb-false (m / 64) (i / 64) f in
     let s = get_or-set_other ws (i / 64) (m / 64) (bit_xor (get_or ws (i / 64) 0) (2 ^ (i % 64))) 0 n in

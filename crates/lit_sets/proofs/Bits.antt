@@ -37,15 +37,15 @@ differ_digit x y (inl p) (inr q) = rw (p, q) (refl, omega arith)
 differ_digit x y (inr p) (inl q) = rw (p, q) (refl, omega arith)
 differ_digit x y (inr p) (inr q) = rw (p, q) (refl, omega arith)
 
-pub bit_xor : (a b k : ℕ) → bit (bit_xor a b) k ≡ xor (bit a k) (bit b k)
-bit_xor a b zero =
+pub xor_bit : (a b k : ℕ) → bit (bit_xor a b) k ≡ xor (bit a k) (bit b k)
+xor_bit a b zero =
     let d = differ_digit (a % 2) (b % 2) (two_digits a) (two_digits b) in
     let e : bit_xor a b % 2 ≡ differ (a % 2) (b % 2) = omega (arith, xor_step a b, d.1) in
     rw (bit_zero (bit_xor a b), bit_zero a, bit_zero b, e) d.0
-bit_xor a b (suc k) =
+xor_bit a b (suc k) =
     let d = differ_digit (a % 2) (b % 2) (two_digits a) (two_digits b) in
     let e : bit_xor a b / 2 ≡ bit_xor (a / 2) (b / 2) = omega (arith, xor_step a b, d.1) in
-    rw (bit_suc (bit_xor a b) k, bit_suc a k, bit_suc b k, e) (bit_xor (a / 2) (b / 2) k)
+    rw (bit_suc (bit_xor a b) k, bit_suc a k, bit_suc b k, e) (xor_bit (a / 2) (b / 2) k)
 
 pub bit_none : (k : ℕ) → bit 0 k ≡ false
 bit_none zero = bit_zero 0

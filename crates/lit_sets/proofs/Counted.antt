@@ -10,7 +10,7 @@ use lib.Bits.{bit_xor}
 use Rattle.rules.specs.Terms.{Assignment}
 use Rattle.rules.specs.Answers.{differing}
 use Rattle.lit_sets.specs.Words.{ones_below, assigned}
-use Rattle.lit_sets.proofs.Bits.{bit_xor, one_at_most}
+use Rattle.lit_sets.proofs.Bits.{xor_bit, one_at_most}
 use Rattle.lit_sets.proofs.Assigned.{at_word}
 
 module _ (xs ys : List ℕ) (j : ℕ) where
@@ -20,7 +20,7 @@ module _ (xs ys : List ℕ) (j : ℕ) where
   unfolding differing ones_below
   part zero h = rw add-zero (omega arith)
   part (suc k) h =
-      rw (add-suc (64 * j) k, at_word xs j k (omega arith), at_word ys j k (omega arith), bit_xor (get_or xs j 0) (get_or ys j 0) k)
+      rw (add-suc (64 * j) k, at_word xs j k (omega arith), at_word ys j k (omega arith), xor_bit (get_or xs j 0) (get_or ys j 0) k)
       (omega (arith, part k (omega arith)))
 
   -- a word more

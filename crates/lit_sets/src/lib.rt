@@ -1,5 +1,6 @@
 // An assignment as 32 words of 64 bits, and a set of literals as two such arrays. One variable or literal more is written in place: by value, all 32 words
 // would be copied each time.
+#![tactic(auto)]
 ghost use Rattle.std.specs.Prelude.{◌≡◌, true, ◌≤◌, length};
 ghost use Rattle.std.specs.Int.Bits.{bit_xor};
 ghost use Rattle.rules.specs.Lists.{all_pass};
@@ -87,7 +88,7 @@ pub fn changed(a: &[u64; 32], b: &[u64; 32]) -> usize
 }
 
 // A set of literals: the variables of the positive ones, and of the negative ones.
-#[derive(Drop)]
+#[derive(Clone, Copy)]
 pub struct Marks {
     pub plus: [u64; 32],
     pub minus: [u64; 32],

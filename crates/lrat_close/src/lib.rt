@@ -1,4 +1,5 @@
 // The end of a proof's line: judged by &, and a clause that passed goes into the table only then. Once the answer is known the table is empty.
+#![tactic(auto)]
 ghost use Rattle.std.specs.Prelude.{◌≡◌, List, ◌≤◌, min, ℤ, length, take};
 ghost use Rattle.rules.specs.Terms.{Literals, State};
 ghost use Rattle.table.specs.Spelled.{Fit, spelled};
@@ -122,7 +123,7 @@ pub fn emptied(t: Table) -> Table
 }
 
 // The numbers beside the tables, the number of refusal, and whether the answer is known.
-#[derive(Drop)]
+#[derive(Clone, Copy)]
 pub struct LineClosed {
     pub table: Table,
     pub code: u32,

@@ -1,4 +1,5 @@
 // A proof fed to the working table as its bytes come: words taken, lines closed, and its end.
+#![tactic(auto)]
 ghost use Rattle.std.specs.Prelude.{◌≡◌, cond, List, ℕ, eqb};
 ghost use Rattle.table.specs.Spelled.{spelled};
 ghost use Rattle.lrat.specs.Checking as paper;
@@ -9,7 +10,7 @@ use lrat::{LratAnswer, ProofLine, ProofReader, ProofWord};
 use table::{Row, Table};
 
 // The numbers beside the tables, and what is read of the proof.
-#[derive(Drop)]
+#[derive(Clone, Copy)]
 pub struct Fed {
     pub table: Table,
     pub reader: ProofReader,

@@ -1,4 +1,5 @@
 // The clauses of a text, added one by one to an empty working table.
+#![tactic(auto)]
 ghost use Rattle.dimacs.specs.Reading.{read_text};
 ghost use Rattle.lrat_fill.specs.Filling.{FillAsked, Fills, Lends};
 
@@ -7,7 +8,7 @@ use dimacs_frames::{Cursor, Yield};
 use table::{Row, Table};
 
 // The text has a fault; there is no room for its clauses, by 12 or 13, under so many variables; or the table holds them.
-#[derive(Drop)]
+#[derive(Clone, Copy)]
 pub enum FilledText {
     Faulty(TextFault),
     Full(u32, u32),

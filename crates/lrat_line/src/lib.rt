@@ -1,5 +1,6 @@
 // A line of a proof on the working table, word by word: what is kept of it does not grow with it. Literals are kept, hints are read as they come, deleted
 // clauses go as their ids come; the least number of refusal that was noted decides at the line's end.
+#![tactic(auto)]
 ghost use Rattle.std.specs.Prelude.{◌≡◌, ◌≤◌};
 ghost use Rattle.rules.specs.Terms.{everything};
 ghost use Rattle.rules.specs.Propagation.{among, judge};
@@ -112,7 +113,7 @@ fn among_literals(
 // ---- hints
 
 // What a hint does: its clause is false, or forces its one open literal, whose opposite is false then; or it is a bad hint.
-#[derive(Drop)]
+#[derive(Clone, Copy)]
 enum Looked {
     Conflict,
     Forced,
@@ -233,7 +234,7 @@ fn among_hints(
 // ---- deleted ids
 
 // The numbers beside the tables, and the line.
-#[derive(Drop)]
+#[derive(Clone, Copy)]
 pub struct Taken {
     pub table: Table,
     pub line: ProofLine,

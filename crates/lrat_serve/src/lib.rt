@@ -1,4 +1,5 @@
 // A proof read in parts and fed as it comes, against rules that fill tables of this call's own: of a proof of any length only a part is in memory.
+#![tactic(auto)]
 ghost use Rattle.std.specs.Prelude.{◌≡◌, List, ℕ, length};
 ghost use Rattle.table.specs.Spelled.{Fit, spelled};
 ghost use Rattle.lrat_feed.specs.Feeding.{Feedable, Feeds, session_of};
@@ -12,7 +13,7 @@ use table::{Row, Table};
 
 // What checking came to: the rules have a fault; the answer is known, whatever stands behind what was read of the proof; it is that of a proof read to its
 // end; or a read failed, and there is none.
-#[derive(Drop)]
+#[derive(Clone, Copy)]
 pub enum Checked {
     Faulty(TextFault),
     Known(LratAnswer),

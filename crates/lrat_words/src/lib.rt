@@ -1,4 +1,5 @@
 // The words of a proof's lines, byte by byte, however the proof is cut: of a word that is on its way no byte is kept, but what they say so far.
+#![tactic(auto)]
 ghost use Rattle.std.specs.Prelude.{◌≡◌, ◌≤◌, length};
 ghost use Rattle.lrat.specs.Machine as machine;
 ghost use Rattle.lrat_words.specs.Taken.{TookWord};
@@ -116,7 +117,7 @@ fn push(w: ProofWord, b: u8) -> ProofWord
 // ---- the bytes of a part up to a blank
 
 // How far the part is read, and the word there.
-#[derive(Drop)]
+#[derive(Clone, Copy)]
 pub struct WordTaken {
     pub from: usize,
     pub word: ProofWord,

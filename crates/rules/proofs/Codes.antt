@@ -3,9 +3,9 @@ use mathlib.Core.Path.{◌≡◌, refl, sym, ap, ◌∙◌}
 use mathlib.Core.Bool.{Bool, true, false, true≢false}
 use mathlib.Core.List.{List, [], ◌∷◌, ◌++◌, map}
 use Prim.Native.Nat.{ℕ, ◌+◌}
-use lib.IntN.{ℤ, neg_ℤ}
+use lib.IntN.{ℤ, neg_ℤ, nat_abs}
 use lib.ListN.{length, take, drop}
-use Rattle.rules.specs.Terms.{Literals, Assignment, Held, State, fetch, everything}
+use Rattle.rules.specs.Terms.{Literals, Assignment, upd, Held, State, fetch, everything}
 use Rattle.rules.specs.Propagation.{Allowed, among, proves}
 use Rattle.rules.specs.Frames.{Frame, ADD, LEARN, FORGET, PROMOTE, DROP, WEAKEN, RESTORE, SAT, UNSAT, Parsed, malformed, framed, parse, number, without}
 use Rattle.rules.specs.Frames.{target}
@@ -58,7 +58,7 @@ needs false f p = p
 flaws : (vars : ℕ) (seen : ℕ → Bool) (at : ℕ) (c : List ℤ) → blames (flaw vars seen at c) ≡ false
 unfolding flaw
 flaws vars seen at [] = refl
-flaws vars seen at (l ∷ c) = both _ _ (needs _ (Literal at) refl) (flaws vars _ (at + 1) c)
+flaws vars seen at (l ∷ c) = both _ _ (needs _ (Literal at) refl) (flaws vars (upd seen (nat_abs l) true) (at + 1) c)
 
 ranges : (vars at : ℕ) (c : List ℤ) → blames (ranged vars at c) ≡ false
 unfolding ranged

@@ -128,13 +128,13 @@ apart [] = true
 apart (l ∷ c) = not (opposes (holds c) l) && apart c
 
 -- they are true then: here `apart` is needed, and that 0 is not among them
-pub make_true : (vars : ℕ) (w : List ℤ) (α : Assignment) (l : ℤ) → all_pass (in_range vars) w ≡ true → apart w ≡ true → Memᴰ l w → lit (make α w) l ≡ true
+pub make_true : (vars : ℕ) (l : ℤ) (w : List ℤ) (α : Assignment) → all_pass (in_range vars) w ≡ true → apart w ≡ true → Memᴰ l w → lit (make α w) l ≡ true
 unfolding make apart
-make_true vars w α l r a (Memᴰ.head {x = x} {xs = v} e) =
+make_true vars l w α r a (Memᴰ.head {x = x} {xs = v} e) =
     let o = not-true (and_left (not (opposes (holds v) x)) (apart v) a) in
     rw e (make_keeps v (put α x) x o (put_self vars α x (all_head (in_range vars) _ _ r)))
-make_true vars w α l r a (Memᴰ.tail {x = x} {xs = v} m) =
-    make_true vars v (put α x) l (all_tail (in_range vars) _ _ r) (and_right (not (opposes (holds v) x)) (apart v) a) m
+make_true vars l w α r a (Memᴰ.tail {x = x} {xs = v} m) =
+    make_true vars l v (put α x) (all_tail (in_range vars) _ _ r) (and_right (not (opposes (holds v) x)) (apart v) a) m
 
 put_other : (α : Assignment) (l : ℤ) (v : ℕ) → eqb (nat_abs l) v ≡ false → put α l v ≡ α v
 unfolding put

@@ -50,7 +50,7 @@ module _ (vars : ℕ) (α : Assignment) (w : List ℤ) (F : Flawless vars unseen
   has_witness : (c : List ℤ) → any_passes (holds w) c ≡ true → sat (make α w) c ≡ true
   has_witness c h =
       let r = any_find (holds w) c h in
-      any_in (lit (make α w)) r.1 (make_true vars w α r.0 F.range (distinct_apart w F.once) (in_holds w r.0 r.2))
+      any_in (lit (make α w)) r.1 (make_true vars r.0 w α F.range (distinct_apart w F.once) (in_holds w r.0 r.2))
 
   -- a clause that is true by a literal whose opposite is not in w stays true
   stays : (c : List ℤ) → sat α (only (λ l. not (opposes (holds w) l)) c) ≡ true → sat (make α w) c ≡ true

@@ -1,7 +1,8 @@
 // The answers that the paper and the code share: the definitions of specs/ answer with these very types.
+#![tactic(auto)]
 
 // How propagation ends: proved after so many hints; the number, from 0, of a bad hint; all hints used up.
-#[derive(Drop)]
+#[derive(Clone, Copy)]
 pub enum Verdict {
     Proved(usize),
     BadHint(usize),
@@ -9,7 +10,7 @@ pub enum Verdict {
 }
 
 // What a refusal says, a case for each code from 1 to 13. A word's index is a usize, an id a u32.
-#[derive(Drop)]
+#[derive(Clone, Copy)]
 pub enum Fault {
     NoState,
     Malformed,
@@ -27,14 +28,14 @@ pub enum Fault {
 }
 
 // What the checks of a step come to.
-#[derive(Drop)]
+#[derive(Clone, Copy)]
 pub enum Check {
     Passed,
     Failed(Fault),
 }
 
 // The answer to a step: accepted, with the number of variables that a SAT changed; or refused.
-#[derive(Drop)]
+#[derive(Clone, Copy)]
 pub enum Answer {
     Accepted(usize),
     Refused(Fault),

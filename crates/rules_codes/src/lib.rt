@@ -1,4 +1,6 @@
 // An answer in document 01's numbers: its code and its detail.
+#![tactic(auto)]
+
 ghost use Rattle.std.specs.Prelude.{◌≡◌};
 ghost use Rattle.rules.specs.Answers.{numbers};
 

@@ -1,11 +1,12 @@
 // From the words of a frame to what its first words say: refusal 2.
+#![tactic(auto)]
 ghost use Rattle.std.specs.Prelude.{◌≡◌, ◌-◌, ◌≤◌, ◌<◌, length, get_or};
 ghost use Rattle.rules.specs.Frames.{word, number, least_words};
 ghost use Rattle.rules.specs.Frames as paper;
 ghost use Rattle.step_frame.specs.Head.{CountsWords, Reads, row, pair};
 
 // The operation, its id, and the length of its list.
-#[derive(Drop)]
+#[derive(Clone, Copy)]
 pub enum Head {
     Malformed,
     Add(u32),
@@ -19,7 +20,7 @@ pub enum Head {
     Unsat(usize),
 }
 
-#[derive(Drop)]
+#[derive(Clone, Copy)]
 pub enum Count {
     Of(usize),
     Wrong,

@@ -1,4 +1,5 @@
 // What a frame came to: the answer, the numbers beside the tables, and what was written.
+#![tactic(auto)]
 ghost use Rattle.std.specs.Prelude.{◌≡◌, ◌||◌};
 ghost use Rattle.step_outcome.specs.Told.{accepted_with, answered_with, is_tables, refused_with};
 
@@ -6,7 +7,7 @@ use rules::{Answer, Fault};
 use table::Table;
 
 // What a frame wrote: an accepted SAT the model buffer, an accepted change the tables, everything else nothing.
-#[derive(Drop)]
+#[derive(Clone, Copy)]
 pub enum Written {
     Nothing,
     Tables,
@@ -14,7 +15,7 @@ pub enum Written {
 }
 
 // The answer, the numbers beside the tables after it, and what was written.
-#[derive(Drop)]
+#[derive(Clone, Copy)]
 pub struct Stepped {
     pub answer: Answer,
     pub table: Table,

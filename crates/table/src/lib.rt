@@ -1,4 +1,5 @@
 // The working table: rows by rising id, literals in a pool, the stack's ids from its bottom.
+#![tactic(auto)]
 ghost use Rattle.std.specs.Prelude.{◌≡◌, ◌+◌, ◌<◌, ◌≤◌, length, set};
 ghost use Rattle.table.specs.Spelled.{Below, Inside, Located, Rising, clause_part, id_of, length_of, place_of, row_at, size, start_of, witness_part};
 ghost use Rattle.table.specs.Spelled.{moved_row, part};
@@ -18,7 +19,7 @@ pub const WITNESS: usize = 4;
 
 // What goes beside the lent tables: V, the highest id accepted, how many clauses may be held, how many rows are in use and of how many of them
 // the clause is gone, how many words are held, how many ids are on the stack, and where the pool's unused tail starts.
-#[derive(Drop)]
+#[derive(Clone, Copy)]
 pub struct Table {
     pub vars: u32,
     pub highest: u32,
@@ -30,7 +31,7 @@ pub struct Table {
     pub top: u32,
 }
 
-#[derive(Drop)]
+#[derive(Clone, Copy)]
 pub enum Found {
     At(usize),
     Nothing,

@@ -1,6 +1,7 @@
 // What an accepted ADD, LEARN, FORGET, DROP, PROMOTE or RESTORE does to the working table, as the paper says; and how a row gives up words, which
 // WEAKEN starts with too (`weaken_write`).
 // What fits is the whole table, so all of it is lent, also where a part is not looked at.
+#![tactic(auto)]
 ghost use Rattle.std.specs.Prelude.{◌≡◌, List, ◌<◌, ◌≤◌, ℤ, length, set};
 ghost use Rattle.rules.specs.Frames.{PROMOTE, RESTORE};
 ghost use Rattle.table.specs.Spelled.{Fit, id_of, length_of, place_of, row_at, size};

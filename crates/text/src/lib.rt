@@ -1,4 +1,5 @@
 // Texts that people write, byte by byte: where a line ends, and where the next word starts, past blanks and comment lines.
+#![tactic(auto)]
 ghost use Rattle.std.specs.Prelude.{◌≡◌, [], ◌∷◌, ◌≤◌, ◌<◌, length};
 ghost use Rattle.text.specs.Words.{is_blank};
 ghost use Rattle.text.specs.Places.{LineEnds, PastComments, Seeks, SeeksFirst, place_on, text_place};
@@ -44,7 +45,7 @@ fn past_comments(text: &[u8], from: usize) -> usize
 }
 
 // Where the next word starts, or the text's length; and whether a word there is the first of its line.
-#[derive(Drop)]
+#[derive(Clone, Copy)]
 pub struct Sought {
     pub at: usize,
     pub first: bool,
@@ -79,7 +80,7 @@ pub fn seek_first(text: &[u8]) -> Sought
 }
 
 // A place as a person finds it: its line and its column, both counted from 1.
-#[derive(Drop)]
+#[derive(Clone, Copy)]
 pub struct Place {
     pub line: usize,
     pub column: usize,

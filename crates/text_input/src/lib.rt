@@ -1,4 +1,5 @@
 // An input as one text, in memory of the program's own.
+#![tactic(auto)]
 ghost use Rattle.std.specs.Prelude.{◌≡◌, ◌+◌, ◌≤◌, length};
 ghost use Rattle.text_input.specs.Input.{InsideInput, Long};
 
@@ -10,7 +11,7 @@ pub fn text_buffer() -> [u8; 1048576]
 }
 
 // The whole input, which is so long; or it is larger than the buffer; or a read failed.
-#[derive(Drop)]
+#[derive(Clone, Copy)]
 pub enum Input {
     Whole(usize),
     Larger,
@@ -18,7 +19,7 @@ pub enum Input {
 }
 
 // How many bytes a read put, and whether it failed.
-#[derive(Drop)]
+#[derive(Clone, Copy)]
 struct Got {
     pub count: usize,
     pub failed: bool,

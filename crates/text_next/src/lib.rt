@@ -1,5 +1,6 @@
 // The next word of a text, behind a word, and the number that it is. Most words have at most seven bytes and stand behind one blank: these are read
 // as one number of 64 bits, with no loop and no branch on what they say, so that a processor need not guess.
+#![tactic(auto)]
 ghost use Rattle.std.specs.Prelude.{◌≡◌, ◌+◌, ◌<◌, ◌≤◌, true, length, if◌then◌else◌};
 ghost use Rattle.std.proofs.Math.Seq.{slice};
 ghost use Rattle.rules.specs.Lists.{all_pass};
@@ -90,7 +91,7 @@ pub fn quick(text: &[u8], at: usize) -> Integer
 }
 
 // Where the next word starts, or the text's length; whether it is the first of its line; and the number that it is.
-#[derive(Drop)]
+#[derive(Clone, Copy)]
 pub struct NextWord {
     pub at: usize,
     pub first: bool,

@@ -1,4 +1,5 @@
 // Words that are numbers, of any length: no string of digits wraps.
+#![tactic(auto)]
 ghost use Rattle.std.specs.Prelude.{◌≡◌, false, ℕ, ◌+◌, ◌*◌, ◌≤◌, ◌<◌, length, get_or, drop};
 ghost use Rattle.text.specs.Places.{word_at};
 ghost use Rattle.text_numbers.specs.Numbers.{is_decimal};
@@ -23,7 +24,7 @@ pub fn is_digit(b: u8) -> bool
 }
 
 // What digits say, and where they end.
-#[derive(Drop)]
+#[derive(Clone, Copy)]
 pub struct SaidDigits {
     pub value: u64,
     pub end: usize,
@@ -65,7 +66,7 @@ pub fn is_behind(text: &[u8], at: usize) -> bool
 }
 
 // A word that is a number: its value, and where the word ends.
-#[derive(Drop)]
+#[derive(Clone, Copy)]
 pub enum Numeral {
     Number(u64, usize),
     NoNumber,
@@ -87,7 +88,7 @@ pub fn read_numeral(text: &[u8], at: usize) -> Numeral
 }
 
 // A word that may be a number with a minus or without: whether it is one, and then its sign, its value, and where the word ends.
-#[derive(Drop)]
+#[derive(Clone, Copy)]
 pub struct Integer {
     pub number: bool,
     pub minus: bool,

@@ -1,4 +1,5 @@
 // The program: tables of its own, opened and served standard input.
+#![tactic(auto)]
 ghost use Rattle.std.specs.Prelude.{◌≡◌, length};
 ghost use Rattle.zahrubel.specs.Opens.{Opens};
 

@@ -1,5 +1,6 @@
 // The program behind `zahrubel dimacs`: rules as DIMACS text on standard input, their ADD frames as lines on standard output. Of a text with a fault, and of
 // one that could not be read, no line is written.
+#![tactic(auto)]
 ghost use Rattle.std.specs.Prelude.{◌≡◌, ◌≤◌, length};
 
 use dimacs_frames::{Cursor, Yield};

@@ -1,5 +1,6 @@
 // The program behind `zahrubel lrat RULES PROOF`: a proof as LRAT text checked against rules as DIMACS text, and the verdict on standard output. Of a proof
 // that is refused, and of one that could not be read, no verdict is written.
+#![tactic(auto)]
 ghost use Rattle.std.specs.Prelude.{[], ◌∷◌, ◌++◌, ◌≤◌, length};
 ghost use Rattle.line_hex.specs.Hex.{hex};
 ghost use Rattle.line_read.specs.Lent.{Wrote};

@@ -1,0 +1,10 @@
+use Rattle.std.proofs.Common.{◌≡◌, ◌-◌, ◌≤◌, length, drop}
+use Rattle.rules.specs.Frames.{make}
+use Rattle.lit_sets.specs.Words.{assigned}
+use Rattle.lit_sets.proofs.make_true.Given as goal
+
+abbrev pub invariant-loop-i : goal.invariant-loop-i
+invariant-loop-i l = (l.i ≤ length l.w) × (make (assigned l.initial.out) l.w ≡ make (assigned l.out) (drop l.i l.w))
+
+abbrev pub decreases-loop-i : goal.decreases-loop-i
+decreases-loop-i l = length l.w - l.i
