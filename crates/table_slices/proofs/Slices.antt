@@ -175,9 +175,9 @@ in_reverse {x} (y ∷ l) m = ⊎_elim
 pub among_of : {i : ℕ} (n : ℕ) (ids : List ℕ) → Memᴰ i (take n ids) → Among ids n i
 among_of zero ids m = absurd (Memᴰ.not-nil m)
 among_of (suc n) [] m = absurd (Memᴰ.not-nil m)
-among_of (suc n) (j ∷ ids) m = ⊎_elim
+among_of {i} (suc n) (j ∷ ids) m = ⊎_elim
     (λ e. record { index = 0; low = omega arith; named = sym e })
-    (λ k. let a = among_of n ids k in let l = a.low in record { index = suc a.index; low = omega arith; named = a.named })
+    (λ (k : Memᴰ i (take n ids)). let a : Among ids n i = among_of n ids k in let l = a.low in record { index = suc a.index; low = omega arith; named = a.named })
     (Memᴰ.cases_cons m)
 
 pub among_below : {ids : List ℕ} {j i : ℕ} → Among ids (j + 1) i → (get_or ids j 0 ≡ i → ⊥) → Among ids j i

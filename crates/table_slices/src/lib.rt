@@ -1,5 +1,6 @@
 // Small writers, and one search, over lent slices. Nothing here knows of clauses or tables.
 #![tactic(auto)]
+
 ghost use Rattle.std.specs.Prelude.{◌≡◌, ◌+◌, ◌-◌, ◌<◌, ◌≤◌, length, get_or};
 ghost use Rattle.table_slices.specs.Writes.{Among, Unmet, closed, over, written};
 
