@@ -1,5 +1,6 @@
 // Texts that people write, byte by byte: where a line ends, and where the next word starts, past blanks and comment lines.
 #![tactic(auto)]
+
 ghost use Rattle.std.specs.Prelude.{◌≡◌, [], ◌∷◌, ◌≤◌, ◌<◌, length};
 ghost use Rattle.text.specs.Words.{is_blank};
 ghost use Rattle.text.specs.Places.{LineEnds, PastComments, Seeks, SeeksFirst, place_on, text_place};
