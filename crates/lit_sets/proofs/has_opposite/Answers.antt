@@ -1,0 +1,15 @@
+-- The arrays changed over are the set of the opposites.
+use mathlib.Core.Path.{◌∙◌, ap}
+use borrow.Author.Rules.{rules}
+use Rattle.lit.proofs.Signed.{said}
+use Rattle.rules.specs.Terms.{Literals}
+use Rattle.lit_sets.specs.Words.{set_of}
+use Rattle.lit_sets.proofs.Sets.{changed_over}
+use Rattle.lit_sets.proofs.has_opposite.Goals as goal
+
+pub returns : goal.returns
+returns c =
+    let a = c.args in
+    said (set_of a.minus.now a.plus.now) c.ranges.l c.has.ensures
+    ∙ ap (λ (S : Literals). S a.l) (changed_over a.plus.now a.minus.now)
+
