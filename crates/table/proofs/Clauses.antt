@@ -15,7 +15,7 @@ use Rattle.table.specs.Spelled.{Row, id_of, held, stands, clauses, Rising}
 use Rattle.table.proofs.Facts.{all_more}
 
 module _ (p : ℕ) (pool : List ℤ) where
-  pub clauses_all : {rows : List Row} (q : Held → Bool) → All (λ r. stands p r ≡ true → q (held pool r) ≡ true) rows → all_pass q (clauses p pool rows) ≡ true
+  pub clauses_all : (q : Held → Bool) {rows : List Row} → All (λ r. stands p r ≡ true → q (held pool r) ≡ true) rows → all_pass q (clauses p pool rows) ≡ true
   unfolding only
   clauses_all q none = all_nil q
   clauses_all q (both {x = r} {xs = rows} h a) = by_cases (stands p r)

@@ -1,5 +1,6 @@
 // The working table: rows by rising id, literals in a pool, the stack's ids from its bottom.
 #![tactic(auto)]
+
 ghost use Rattle.std.specs.Prelude.{◌≡◌, ◌+◌, ◌<◌, ◌≤◌, length, set};
 ghost use Rattle.table.specs.Spelled.{Below, Inside, Located, Rising, clause_part, id_of, length_of, place_of, row_at, size, start_of, witness_part};
 ghost use Rattle.table.specs.Spelled.{moved_row, part};
