@@ -1,5 +1,6 @@
 // Words that are numbers, of any length: no string of digits wraps.
 #![tactic(auto)]
+
 ghost use Rattle.std.specs.Prelude.{◌≡◌, false, ℕ, ◌+◌, ◌*◌, ◌≤◌, ◌<◌, length, get_or, drop};
 ghost use Rattle.text.specs.Places.{word_at};
 ghost use Rattle.text_numbers.specs.Numbers.{is_decimal};
