@@ -37,14 +37,12 @@ high w h = to_z-of_z (high_fits w h) ∙ rw (small (4294967295 - w) (omega arith
 pub stored : (w : ℕ) → w < 4294967296 → to_z w32 (of_z w32 (signed w)) ≡ signed w
 unfolding signed
 stored w h =
-    to_z-of_z
-    (record {
-      sfits = elim (dec_lt w 2147483648) [
-        | yes a ↦ rw (lt-ltb w 2147483648 a) (omega arith)
-        | no a ↦ rw (le-ltb w 2147483648 (omega arith))
-            (omega arith)
-      ];
-    })
+    let f : SFits w32 (signed w) =
+      elim (dec_lt w 2147483648) [
+        | yes a ↦ rw (lt-ltb w 2147483648 a) (record { sfits = omega arith })
+        | no a ↦ rw (le-ltb w 2147483648 (omega arith)) (record { sfits = omega arith })
+      ] in
+    to_z-of_z f
 
 -- ---- from the word to its bits
 
