@@ -14,19 +14,20 @@ use Rattle.table.specs.Facts.{All, none, both, alone, ahead}
 use Rattle.table.specs.Spelled.{Row, id_of, held, stands, clauses, Rising}
 use Rattle.table.proofs.Facts.{all_more}
 
-module _ (p : ℕ) (pool : List ℤ) where
-  pub clauses_all : (q : Held → Bool) {rows : List Row} → All (λ r. stands p r ≡ true → q (held pool r) ≡ true) rows → all_pass q (clauses p pool rows) ≡ true
+module _ (p : ℕ) (pool : List ℤ) (q : Held → Bool) where
+  pub clauses_all : {rows : List Row} → All (λ r. stands p r ≡ true → q (held pool r) ≡ true) rows → all_pass q (clauses p pool rows) ≡ true
   unfolding only
-  clauses_all q none = all_nil q
-  clauses_all q (both {x = r} {xs = rows} h a) = by_cases (stands p r)
-      (λ e. rw e (all_cons q (held pool r) (clauses p pool rows) (h e) (clauses_all q a)))
-      (λ e. rw e (clauses_all q a))
+  clauses_all none = all_nil q
+  clauses_all (both {x = r} {xs = rows} h a) = by_cases (stands p r)
+      (λ e. rw e (all_cons q (held pool r) (clauses p pool rows) (h e) (clauses_all a)))
+      (λ e. rw e (clauses_all a))
 
+module _ (p : ℕ) (pool : List ℤ) where
   pub clauses_rising : {rows : List Row} → Rising rows → rising (clauses p pool rows) ≡ true
   unfolding only rising
   clauses_rising alone = refl
   clauses_rising (ahead {x = r} {xs = rows} a s) = by_cases (stands p r)
-      (λ e. rw e (and_both (clauses_all (later (held pool r)) (all_more (λ x l _. lt-ltb (id_of r) (id_of x) l) a)) (clauses_rising s)))
+      (λ e. rw e (and_both (clauses_all p pool (later (held pool r)) (all_more (λ x l _. lt-ltb (id_of r) (id_of x) l) a)) (clauses_rising s)))
       (λ e. rw e (clauses_rising s))
 
 pub records_all : (q : Held → Bool) (hs : List Held) {ids : List ℕ} → all_pass q hs ≡ true → All (λ i. has hs i ≡ true) ids →
