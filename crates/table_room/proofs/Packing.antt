@@ -111,10 +111,10 @@ entries_packed pool pre rest at e (both {x = r} {xs = rows} p a) =
     let one = entry_packed pool pre (joined pool rows ++ rest) at r e p in
     let more : map (in_place ((pre ++ x) ++ (joined pool rows ++ rest))) (packed (at + size r) rows) ≡ map (in_place pool) rows =
     entries_packed pool (pre ++ x) rest (at + size r) l a in
-    let z : pre ++ ((x ++ joined pool rows) ++ rest) ≡ pre ++ (x ++ (joined pool rows ++ rest)) = ap (λ (y : List ℤ). pre ++ y)
+    let z : pre ++ (joined pool (r ∷ rows) ++ rest) ≡ pre ++ (x ++ (joined pool rows ++ rest)) = ap (λ (y : List ℤ). pre ++ y)
     (append_assoc x (joined pool rows) rest) in
     let z₂ : (pre ++ x) ++ (joined pool rows ++ rest) ≡ pre ++ (x ++ (joined pool rows ++ rest)) = append_assoc pre x (joined pool rows ++ rest) in
-    rw (z, one) (ap (λ (es : List InPlace). in_place pool r ∷ es) (rw z₂ at more))
+    ap (λ (m : List ℤ). map (in_place m) (packed at (r ∷ rows))) z ∙ rw one (ap (λ (es : List InPlace). in_place pool r ∷ es) (rw z₂ at more))
 
 module _ {t : Table} {rows₀ : List Row} {pool : List ℤ} {stack : List ℕ} (f : Fit t rows₀ pool stack) where
   in_pool : All (Inside (length pool)) (held_rows t rows₀)

@@ -1,6 +1,7 @@
 // Room: at the pool's tail, and behind the last row. It is made where there is none, and leaves every clause what it was.
 // What fits is the whole table, so all of it is lent, also where a part is not looked at.
 #![tactic(auto)]
+
 ghost use Rattle.std.specs.Prelude.{◌≡◌, ◌+◌, ◌-◌, ◌<◌, ◌≤◌, length};
 ghost use Rattle.table.specs.Spelled.{Fit};
 ghost use Rattle.table_room.specs.Room.{ClosedUp, FreeRow, Gathered, Roomy, Squeezed};
