@@ -1,5 +1,6 @@
 // Hexadecimal digits and words: what a byte counts as, the value of eight digits, and two's complement. Nothing here knows of lines.
 #![tactic(auto)]
+
 ghost use Rattle.std.specs.Prelude.{◌≡◌, ◌+◌, ◌≤◌, ◌<◌, length};
 ghost use Rattle.line_hex.specs.Hex.{digit, value_at, signed, unsigned, Values};
 

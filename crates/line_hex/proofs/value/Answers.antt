@@ -1,0 +1,24 @@
+use Rattle.std.proofs.Common.{le-ltb, lt-ltb}
+use Rattle.line_hex.specs.Hex.{digit}
+use Rattle.line_hex.proofs.value.Goals as goal
+
+pub returns-then-b-lt48 : goal.returns-then-b-lt48
+unfolding digit
+returns-then-b-lt48 c = simp (lt-ltb _ _ c.if-b-lt48.true)
+
+pub returns-then-b-lt58 : goal.returns-then-b-lt58
+unfolding digit
+returns-then-b-lt58 c = simp (le-ltb _ _ c.if-b-lt48.false, lt-ltb _ _ c.if-b-lt58.true)
+
+pub returns-then-b-lt97 : goal.returns-then-b-lt97
+unfolding digit
+returns-then-b-lt97 c = simp (le-ltb _ _ c.if-b-lt48.false, le-ltb _ _ c.if-b-lt58.false, lt-ltb _ _ c.if-b-lt97.true)
+
+pub returns-then-b-lt103 : goal.returns-then-b-lt103
+unfolding digit
+returns-then-b-lt103 c =
+    simp (le-ltb _ _ c.if-b-lt48.false, le-ltb _ _ c.if-b-lt58.false, le-ltb _ _ c.if-b-lt97.false, lt-ltb _ _ c.if-b-lt103.true)
+
+pub returns : goal.returns
+unfolding digit
+returns c = simp (le-ltb _ _ c.if-b-lt48.false, le-ltb _ _ c.if-b-lt58.false, le-ltb _ _ c.if-b-lt97.false, le-ltb _ _ c.if-b-lt103.false)
