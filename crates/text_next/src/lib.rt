@@ -1,6 +1,7 @@
 // The next word of a text, behind a word, and the number that it is. Most words have at most seven bytes and stand behind one blank: these are read
 // as one number of 64 bits, with no loop and no branch on what they say, so that a processor need not guess.
 #![tactic(auto)]
+
 ghost use Rattle.std.specs.Prelude.{◌≡◌, ◌+◌, ◌<◌, ◌≤◌, true, length, if◌then◌else◌};
 ghost use Rattle.std.proofs.Math.Seq.{slice};
 ghost use Rattle.rules.specs.Lists.{all_pass};

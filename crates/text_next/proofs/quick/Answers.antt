@@ -1,0 +1,23 @@
+use Rattle.std.proofs.Common.{arith, ltb, not, refl, sym, ◌/◌, ◌||◌, ◌∙◌, ◌≤◌}
+use Rattle.rules.proofs.Lists.{not-false, or-false}
+use Rattle.text_next.proofs.Short.{quick_told}
+use Rattle.text_next.proofs.Tops.{low_bit_most, low_bit_place}
+use borrow.Author.Tests.{ltb-false}
+use Rattle.text_next.proofs.quick.Goals as goal
+
+pub last_digits-e-requires : goal.last_digits-e-requires
+last_digits-e-requires c = rw c.low_bit-bits.ensures (low_bit_most 8 c.eight-x.result)
+
+pub returns : goal.returns
+returns c =
+    let bits = c.low_bit-bits.result in
+    let are = c.are_digits.result in
+    let l = or-false (ltb bits 8 || ltb 63 bits) (not are) c.if-bits-are_digits.false in
+    let k = or-false (ltb bits 8) (ltb 63 bits) l.0 in
+    let low : 8 ≤ bits = ltb-false bits 8 k.0 in
+    let high : bits ≤ 63 = ltb-false 63 bits k.1 in
+    let n = bits / 8 in
+    let place = low_bit_place 8 _ _ c.low_bit-bits.ensures (omega arith) in
+    rw c.is_blank.ensures
+    (quick_told _ _ _ n c.requires (λ i. (c.type_inv.text i).fits) c.eight-x.ensures (omega arith) (omega arith)
+    _ _ _ place (sym c.are_digits.ensures ∙ not-false l.1) c.said_by-value.ensures _ _ refl c.bit-sign.ensures.0 c.last_digits-e.ensures)
