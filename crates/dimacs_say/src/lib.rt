@@ -4,15 +4,15 @@ ghost use Rattle.std.specs.Prelude.{◌≤◌, length};
 
 use dimacs::TextFault;
 
-fn say(words: &[u8]) {
-    io::write_all(2, words);
+fn say(rt: &HostRuntime, words: &[u8]) {
+    let _ = rt.stderr().write_all(words);
 }
 
 // The first line for programs: code and position, eight digits each.
-fn say_numbers(fault: TextFault) {
+fn say_numbers(rt: &HostRuntime, fault: TextFault) {
     let mut out = [0u8; 17];
     let n = dimacs_lines::put_fault(&mut out, 0, fault);
-    say(&out[..n]);
+    say(rt, &out[..n]);
 }
 
 fn inside(text: &[u8], at: usize) -> usize
@@ -24,48 +24,55 @@ fn inside(text: &[u8], at: usize) -> usize
     at
 }
 
-fn say_place(before: &[u8], text: &[u8], at: usize) {
+fn say_place(rt: &HostRuntime, before: &[u8], text: &[u8], at: usize) {
     let place = text::place_of(text, inside(text, at));
-    say(before);
-    io::print_decimal(2, place.line as u64);
-    say(b", column ");
-    io::print_decimal(2, place.column as u64);
-    say(b": ");
+    say(rt, before);
+    let _ = rt.stderr().print(place.line);
+    say(rt, b", column ");
+    let _ = rt.stderr().print(place.column);
+    say(rt, b": ");
 }
 
 // What a person can act on.
-fn say_words(fault: TextFault) {
+fn say_words(rt: &HostRuntime, fault: TextFault) {
     match fault {
         TextFault::NoProblemLine(_) => say(
+            rt,
             b"the problem line is missing; a line \"p cnf VARIABLES CLAUSES\" stands before all clauses",
         ),
         TextFault::SecondProblemLine(_) => say(
+            rt,
             b"a second problem line; a text has one, before all clauses",
         ),
         TextFault::MalformedWord(_) => say(
+            rt,
             b"a malformed word; literals are numbers such as 5 and -5, 0 closes a clause, the problem line is \"p cnf VARIABLES CLAUSES\"",
         ),
         TextFault::PastDeclared(_) => say(
+            rt,
             b"a literal past the variable count that the problem line declares",
         ),
         TextFault::VariableTwice(_) => say(
+            rt,
             b"a variable that its clause has already; a clause names a variable once",
         ),
-        TextFault::LongClause(_) => say(b"the 257th literal of a clause; a clause has at most 256"),
-        TextFault::VarsOutOfRange(_) => say(b"a variable count outside 1 to 2,048"),
+        TextFault::LongClause(_) => say(rt, b"the 257th literal of a clause; a clause has at most 256"),
+        TextFault::VarsOutOfRange(_) => say(rt, b"a variable count outside 1 to 2,048"),
         TextFault::UnclosedClause(_) => say(
+            rt,
             b"the text ends inside a clause; the 0 that closes it is missing",
         ),
         TextFault::WrongClauseCount(_) => say(
+            rt,
             b"the text ends with more or fewer clauses than its problem line declares",
         ),
     }
-    say(b"\n");
+    say(rt, b"\n");
 }
 
 // Two lines. The second, for people, has these words before the number of the faulty word's line.
-pub fn say_fault(before: &[u8], text: &[u8], fault: TextFault) {
-    say_numbers(fault);
-    say_place(before, text, dimacs_codes::position(fault));
-    say_words(fault);
+pub fn say_fault(rt: &HostRuntime, before: &[u8], text: &[u8], fault: TextFault) {
+    say_numbers(rt, fault);
+    say_place(rt, before, text, dimacs_codes::position(fault));
+    say_words(rt, fault);
 }

@@ -7,10 +7,10 @@ use Rattle.text_input.specs.declared.Input.TheVariants.{Whole, Larger, Unread}
 abbrev pub InsideInput : List ℕ → Input → Type 0
 InsideInput buf (Whole n) = n ≤ length buf
 InsideInput buf Larger = Unit
-InsideInput buf Unread = Unit
+InsideInput buf (Unread reason) = Unit
 
 -- it has k bytes
 abbrev pub Long : ℕ → Input → Type 0
 Long k (Whole n) = n ≡ k
 Long k Larger = Unit
-Long k Unread = Unit
+Long k (Unread reason) = Unit
