@@ -2,6 +2,7 @@
 // WEAKEN starts with too (`weaken_write`).
 // What fits is the whole table, so all of it is lent, also where a part is not looked at.
 #![tactic(auto)]
+
 ghost use Rattle.std.specs.Prelude.{◌≡◌, List, ◌<◌, ◌≤◌, ℤ, length, set};
 ghost use Rattle.rules.specs.Frames.{PROMOTE, RESTORE};
 ghost use Rattle.table.specs.Spelled.{Fit, id_of, length_of, place_of, row_at, size};
