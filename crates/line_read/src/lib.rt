@@ -1,5 +1,6 @@
 // Hexadecimal lines: a reader that takes bytes as they come.
 #![tactic(auto)]
+
 ghost use Rattle.std.specs.Prelude.{◌≡◌, false, ◌≤◌, length};
 ghost use Rattle.line_hex.specs.Hex.{Values};
 ghost use Rattle.line_read.specs.Machine.{line_of, push, is_frame};
