@@ -1,5 +1,6 @@
 // Bytes and numbers put into an output buffer, one after the other. What is said of the buffer is defined in `line_read`, the digits in `line_hex`.
 #![tactic(auto)]
+
 ghost use Rattle.std.specs.Prelude.{◌≡◌, [], ◌∷◌, ◌+◌, ◌≤◌, ◌<◌, length};
 ghost use Rattle.line_hex.specs.Hex.{glyph, hex};
 ghost use Rattle.line_read.specs.Lent.{Wrote};
