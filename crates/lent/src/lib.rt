@@ -1,5 +1,6 @@
 // What is lent and carried: what is carried on of a working table, that no two parts of the pool overlap, and that the stack lists each stacked clause once.
 #![tactic(auto)]
+
 ghost use Rattle.std.specs.Prelude.{◌≡◌, true, ◌&&◌, List, ◌<◌, ◌≤◌, eqb, ℤ, length};
 ghost use Rattle.rules.specs.Answers.{lent};
 ghost use Rattle.rules.specs.Lists.{all_pass, only};
