@@ -1,5 +1,6 @@
 // A fault of a text in numbers: its code and its position.
 #![tactic(auto)]
+
 ghost use Rattle.std.specs.Prelude.{◌≡◌};
 ghost use Rattle.dimacs.specs.Reading.{fault_numbers};
 
