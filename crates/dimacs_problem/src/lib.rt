@@ -1,5 +1,6 @@
 // The problem line of a text: p cnf V C.
 #![tactic(auto)]
+
 ghost use Rattle.std.specs.Prelude.{◌≡◌, false, [], ◌∷◌, ◌≤◌, length, drop};
 ghost use Rattle.text.specs.Words.{words_from};
 ghost use Rattle.text.specs.Places.{word_at};
