@@ -1,5 +1,6 @@
 // Standard input served on the working table: read, fed and answered to its end. The lent table is taken in once, and put back after it.
 #![tactic(auto)]
+
 ghost use Rattle.std.specs.Prelude.{◌≡◌, List, ℕ, ◌≤◌, length};
 ghost use Rattle.std.proofs.Math.Option.{some};
 ghost use Rattle.rules.specs.Answers.{opened};
@@ -12,7 +13,25 @@ use lent::Carried;
 use lent_entries::Entry;
 use lent_load::Loaded;
 use line_read::Reader;
+use std::io;
+use std::io::Read;
 use table::{Row, Table};
+
+// A write that failed is said: without it the answers would be lost in silence.
+fn say_unsent(rt: &HostRuntime, reason: io::Error) {
+    trouble::fail(rt, b"zahrubel: cannot write the answers", reason);
+}
+
+// Writes answers, and whether every one was taken whole.
+fn send(rt: &HostRuntime, answers: &[u8]) -> bool {
+    match rt.stdout().write_all(answers) {
+        Ok(()) => true,
+        Err(reason) => {
+            say_unsent(rt, reason);
+            false
+        }
+    }
+}
 
 // How far a part was fed, the reader and the numbers beside the tables after it, whether a line was an accepted change, and whether every write was taken
 // whole.
@@ -25,8 +44,9 @@ struct Pumped {
     pub sent: bool,
 }
 
-// Feeds one part, and writes each time the answers are many: to its end, or as far as writes are taken.
+// Feeds one part, and writes each time the answers are many: to its end, or as far as writes are taken. A write that fails is said.
 fn pump(
+    rt: &HostRuntime,
     part: &[u8],
     r: Reader,
     frame: &mut [i32],
@@ -52,7 +72,7 @@ fn pump(
         table = fed.table;
         altered = step_outcome::either(altered, fed.altered);
         let at = fed.at;
-        sent = io::write_all(1, &out[..at]);
+        sent = send(rt, &out[..at]);
         if !sent {
             break;
         }
@@ -66,23 +86,16 @@ fn pump(
     }
 }
 
-// A write that failed is said: without it the answers would be lost in silence.
-fn say_unsent() {
-    os::fail(b"zahrubel: cannot write the answers");
-}
-
 // The end of the input, or a read that failed: what the end adds is written, and a failure is said instead, since then no end was met.
-fn conclude(got: isize, r: Reader, out: &mut [u8])
+fn conclude(rt: &HostRuntime, got: io::Result<usize>, r: Reader, out: &mut [u8])
     requires { 17 ≤ length out.old }
 {
-    if got < 0 {
-        os::fail(b"zahrubel: cannot read the frames");
+    if let Err(reason) = got {
+        trouble::fail(rt, b"zahrubel: cannot read the frames", reason);
         return;
     }
     let k = line_reply::finish(r, out, 0);
-    if !io::write_all(1, &out[..k]) {
-        say_unsent();
-    }
+    send(rt, &out[..k]);
 }
 
 // The numbers beside the tables at the end of the input, and whether a line of it was an accepted change.
@@ -92,27 +105,44 @@ struct Attended {
     pub altered: bool,
 }
 
+// How many bytes a read put at the start of the buffer: none where it failed.
+fn count(got: io::Result<usize>, buf: &[u8]) -> usize
+    ensures { result ≤ length buf.now }
+{
+    match got {
+        Ok(n) => n.min(buf.len()),
+        Err(_) => 0,
+    }
+}
+
 // Reads standard input to its end, in parts of 64 KiB, and answers what was read before it reads again. A read or a write that fails is said, and ends it.
-fn attend(rows: &mut [Row], pool: &mut [i32], stack: &mut [u32], t: Table) -> Attended
+fn attend(
+    rt: &HostRuntime,
+    rows: &mut [Row],
+    pool: &mut [i32],
+    stack: &mut [u32],
+    t: Table,
+) -> Attended
     requires { Fit t rows.old pool.old stack.old }
     ensures { (bs : List ℕ) × Attending bs t rows.old pool.old stack.old result rows.new pool.new
         stack.new }
 {
-    let mut buf = io::large_buffer();
-    let mut out = io::large_buffer();
+    let mut buf = [0u8; 65536];
+    let mut out = [0u8; 65536];
     let mut frame = [0i32; 4096];
     let mut reader = line_read::fresh();
     let mut table = t;
     let mut altered = false;
     let mut turns = u64::MAX;
     while turns > 0 {
-        let got = libc::read(0, &mut buf);
-        let n = io::count(got, &buf);
+        let got = rt.stdin().read(&mut buf);
+        let n = count(got, &buf);
         if n == 0 {
-            conclude(got, reader, &mut out);
+            conclude(rt, got, reader, &mut out);
             break;
         }
         let q = pump(
+            rt,
             &buf[..n],
             reader,
             &mut frame,
@@ -126,7 +156,6 @@ fn attend(rows: &mut [Row], pool: &mut [i32], stack: &mut [u32], t: Table) -> At
         table = q.table;
         altered = step_outcome::either(altered, q.altered);
         if !q.sent {
-            say_unsent();
             break;
         }
         turns -= 1;
@@ -142,7 +171,7 @@ struct Served {
 }
 
 // The input on the rows taken in, of which the first n are the table's.
-fn serve_rows(n: usize, rows: &mut [Row], pool: &mut [i32], c: Carried) -> Served
+fn serve_rows(rt: &HostRuntime, n: usize, rows: &mut [Row], pool: &mut [i32], c: Carried) -> Served
     requires { (length rows.old ≡ 1280) × (n ≤ 1024) × (length pool.old ≤ 8192) }
     ensures { ServedRows n rows.old pool.old c result rows.new pool.new }
 {
@@ -153,7 +182,7 @@ fn serve_rows(n: usize, rows: &mut [Row], pool: &mut [i32], c: Carried) -> Serve
         };
     };
     let mut stack = c.stack;
-    let q = attend(rows, pool, &mut stack, t);
+    let q = attend(rt, rows, pool, &mut stack, t);
     if q.altered {
         let table = q.table;
         let whole = table_room::squeeze(rows, pool, &stack, table);
@@ -170,12 +199,12 @@ fn serve_rows(n: usize, rows: &mut [Row], pool: &mut [i32], c: Carried) -> Serve
 }
 
 // Serves standard input on lent tables that were just opened; what is carried after it.
-pub fn serve(entries: &mut [Entry], pool: &mut [i32], carried: Carried) -> Carried
+pub fn serve(rt: &HostRuntime, entries: &mut [Entry], pool: &mut [i32], carried: Carried) -> Carried
     requires { state_lent entries.old pool.old carried ≡ some (opened 2048 1024 8192) }
     ensures { Serving entries.old pool.old carried result entries.new pool.new }
 {
     let mut rows = lent_entries::take_in(entries, carried.count);
-    let served = serve_rows(entries.len(), &mut rows, pool, carried);
+    let served = serve_rows(rt, entries.len(), &mut rows, pool, carried);
     lent_entries::put_back(entries, served.count, rows);
     served.carried
 }

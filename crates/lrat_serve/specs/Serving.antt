@@ -17,8 +17,8 @@ abbrev pub answer_of : ProofReader → LratAnswer
 answer_of r = answer r.code (cond (eqb r.code 0) 0 r.lines)
 
 -- there is an answer once it is over: at the end or before it
-abbrev pub concluded : Bool → ProofReader → Checked
-concluded ended r = cond r.over (cond ended (Ended (answer_of r)) (Known (answer_of r))) Unread
+abbrev pub concluded : Bool → ProofReader → Error → Checked
+concluded ended r reason = cond r.over (cond ended (Ended (answer_of r)) (Known (answer_of r))) (Unread reason)
 
 -- against the clauses of a state: an answer that is known stays whatever follows, "nothing after the first empty clause is read"; one at the end is that of all
 -- that was read; where a read failed nothing is told
@@ -26,11 +26,11 @@ abbrev pub Tells : State → List ℕ → Checked → Type 0
 Tells s bs (Faulty f) = ⊥
 Tells s bs (Known a) = (more : List ℕ) → a ≡ check_proof s (bs ++ more)
 Tells s bs (Ended a) = a ≡ check_proof s bs
-Tells s bs Unread = Unit
+Tells s bs (Unread reason) = Unit
 
 -- the same of both texts; a fault of the rules is the answer to any proof
 abbrev pub Serves : List ℕ → List ℕ → Checked → Type 0
 Serves cnf bs (Faulty f) = (proof : List ℕ) → answer (fault_numbers f).0 (fault_numbers f).1 ≡ lrat 1024 8192 cnf proof
 Serves cnf bs (Known a) = (more : List ℕ) → a ≡ lrat 1024 8192 cnf (bs ++ more)
 Serves cnf bs (Ended a) = a ≡ lrat 1024 8192 cnf bs
-Serves cnf bs Unread = Unit
+Serves cnf bs (Unread reason) = Unit

@@ -1,5 +1,6 @@
 // A proof read in parts and fed as it comes, against rules that fill tables of this call's own: of a proof of any length only a part is in memory.
 #![tactic(auto)]
+
 ghost use Rattle.std.specs.Prelude.{◌≡◌, List, ℕ, length};
 ghost use Rattle.table.specs.Spelled.{Fit, spelled};
 ghost use Rattle.lrat_feed.specs.Feeding.{Feedable, Feeds, session_of};
@@ -9,38 +10,40 @@ use dimacs::TextFault;
 use lrat::{LratAnswer, ProofReader};
 use lrat_feed::Fed;
 use lrat_fill::FilledText;
+use std::fs::File;
+use std::io;
+use std::io::{Read, Write};
 use table::{Row, Table};
 
 // What checking came to: the rules have a fault; the answer is known, whatever stands behind what was read of the proof; it is that of a proof read to its
-// end; or a read failed, and there is none.
+// end; or a read failed, for this reason, and there is none.
 #[derive(Clone, Copy)]
 pub enum Checked {
     Faulty(TextFault),
     Known(LratAnswer),
     Ended(LratAnswer),
-    Unread,
+    Unread(io::Error),
 }
 
-// ---- progress, on a terminal that is descriptor 3
+// ---- progress, on a terminal where there is one
 
 // Shows how far the proof is read each time that its bytes come past a multiple of 4 MiB, over what was shown before.
-fn show(before: u64, read: u64, lines: u64) {
+fn show(terminal: &mut Option<File>, before: u64, read: u64, lines: u64) {
     if before / 4194304 < read / 4194304 {
-        io::write_all(3, b"\r");
-        io::print_decimal(3, read);
-        io::write_all(3, b" bytes, ");
-        io::print_decimal(3, lines);
-        io::write_all(3, b" lines");
+        if let Some(shown) = terminal {
+            let _ = write!(shown, "\r{read} bytes, {lines} lines");
+        }
     }
 }
 
 // What was shown goes, so that the verdict stands alone.
-fn clear(read: u64) {
+fn clear(terminal: &mut Option<File>, read: u64) {
     if 4194304 <= read {
-        io::write_all(
-            3,
-            b"\r                                                            \r",
-        );
+        if let Some(shown) = terminal {
+            let _ = shown.write_all(
+                b"\r                                                            \r",
+            );
+        }
     }
 }
 
@@ -70,11 +73,11 @@ fn feed_on(
 }
 
 // The answer where there is one: it was known before the end, or at it.
-fn conclude(ended: bool, r: ProofReader) -> Checked
-    ensures { result ≡ concluded ended r }
+fn conclude(ended: bool, r: ProofReader, failure: io::Error) -> Checked
+    ensures { result ≡ concluded ended r failure }
 {
     if !r.over {
-        return Checked::Unread;
+        return Checked::Unread(failure);
     }
     let answer = lrat_feed::told(r);
     if ended {
@@ -83,10 +86,20 @@ fn conclude(ended: bool, r: ProofReader) -> Checked
     Checked::Known(answer)
 }
 
+// How many bytes a read put at the start of the buffer: none where it failed.
+fn count(got: io::Result<usize>, buf: &[u8]) -> usize
+    ensures { result ≤ length buf.now }
+{
+    match got {
+        Ok(n) => n.min(buf.len()),
+        Err(_) => 0,
+    }
+}
+
 // Reads a proof in parts of 64 KiB, to its end or until its answer is known. No file has 2^63 bytes.
-fn check(
-    fd: i32,
-    shown: bool,
+fn check<R: Read>(
+    proof: &mut R,
+    terminal: &mut Option<File>,
     rows: &mut [Row],
     pool: &mut [i32],
     stack: &[u32],
@@ -95,20 +108,22 @@ fn check(
     requires { Fit t rows.old pool.old stack.now }
     ensures { (bs : List ℕ) × Tells (spelled t rows.old pool.old stack.now) bs result }
 {
-    let mut buf = io::large_buffer();
+    let mut buf = [0u8; 65536];
     let mut lits = [0i32; 256];
     let mut plus = [0u64; 32];
     let mut minus = [0u64; 32];
     let mut table = t;
     let mut reader = lrat_feed::start();
     let mut ended = false;
+    let mut failure = io::Error::from(io::ErrorKind::FileTooLarge);
     let mut read: u64 = 0;
     while read < 9223372036854775808 {
-        let got = libc::read(fd, &mut buf);
-        if got < 0 {
+        let got = proof.read(&mut buf);
+        if let Err(reason) = got {
+            failure = reason;
             break;
         }
-        let n = io::count(got, &buf);
+        let n = count(got, &buf);
         let fed = feed_on(
             &buf[..n],
             rows,
@@ -128,14 +143,10 @@ fn check(
         }
         let before = read;
         read += n as u64;
-        if shown {
-            show(before, read, reader.lines);
-        }
+        show(terminal, before, read, reader.lines);
     }
-    if shown {
-        clear(read);
-    }
-    conclude(ended, reader)
+    clear(terminal, read);
+    conclude(ended, reader, failure)
 }
 
 // ---- the rules and the proof
@@ -159,8 +170,8 @@ fn vacant_stack() -> [u32; 1024]
     [0u32; 1024]
 }
 
-// Checks the proof behind a descriptor against rules as a text of any bytes, in tables of 1,024 entries and 8,192 words.
-pub fn serve(rules: &[u8], fd: i32, shown: bool) -> Checked
+// Checks a proof that is read against rules as a text of any bytes, in tables of 1,024 entries and 8,192 words.
+pub fn serve<R: Read>(rules: &[u8], proof: &mut R, terminal: &mut Option<File>) -> Checked
     ensures { (bs : List ℕ) × Serves rules.now bs result }
 {
     let mut rows = vacant_rows();
@@ -170,6 +181,6 @@ pub fn serve(rules: &[u8], fd: i32, shown: bool) -> Checked
     match filled {
         FilledText::Faulty(f) => Checked::Faulty(f),
         FilledText::Full(code, _) => Checked::Known(LratAnswer { code, detail: 0 }),
-        FilledText::Working(t) => check(fd, shown, &mut rows, &mut pool, &stack, t),
+        FilledText::Working(t) => check(proof, terminal, &mut rows, &mut pool, &stack, t),
     }
 }

@@ -1,5 +1,6 @@
 // The program: tables of its own, opened and served standard input.
 #![tactic(auto)]
+
 ghost use Rattle.std.specs.Prelude.{◌≡◌, length};
 ghost use Rattle.zahrubel.specs.Opens.{Opens};
 
@@ -19,8 +20,8 @@ fn open() -> Carried
     called.carried
 }
 
-fn main() {
+fn main(rt: HostRuntime) {
     let mut entries = lent_entries::vacant_entries();
     let mut pool = vacant_pool();
-    call_serve::serve(&mut entries, &mut pool, open());
+    call_serve::serve(&rt, &mut entries, &mut pool, open());
 }
