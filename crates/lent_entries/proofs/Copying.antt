@@ -1,35 +1,15 @@
--- What the two loops share that copy between the lent table and the rows: the turn's number, and the list after so many turns.
+-- What the two loops share that copy between the lent table and the rows: the list after so many turns.
 use mathlib.Core.Path.{◌≡◌, refl, ◌∙◌, sym, ap}
 use mathlib.Core.List.{List, [], ◌∷◌, ◌++◌, map, map-append}
-use mathlib.Core.WellFounded.InvImage
-use mathlib.Core.WellFounded.{WellFounded}
 use Prim.Native.Nat.{ℕ, zero, suc, ◌+◌, ◌-◌, ◌<◌, ◌≤◌}
 use native.Mathlib.Omega.{arith}
 use lib.ListN.{length, get_or, set, take, drop as drop-list, length-append, length-drop, length-map, get_or-map}
 use lib.Seq.{length-take-le, get_or-take}
-use lib.WfN.{lt-wf_rel}
-use mir.Val.{Val}
-use denote.Laws.{Is}
-use denote.Array.{each}
-use denote.Shadow.{shadow}
 use Rattle.table_slices.specs.Writes.{over}
 use Rattle.table_slices.proofs.Slices.{over_next, over_last}
 use Rattle.table.specs.Spelled.{Row}
 use Rattle.lent_entries.specs.Lent.{entry_of, row_of, row_of_entry}
 use Rattle.lent_entries.specs.declared.Entry.{Entry}
-use Rattle.lent_entries.proofs.Values.{R, Rows, rows_value}
-
--- ---- a turn's number, at most n; the variant is what is left
-
-pub record Turn (n : ℕ) : Type 0 where
-  pub at : ℕ
-  pub le : at ≤ n
-
-abbrev pub ◌≺◌ : {n : ℕ} → Turn n → Turn n → Type 0
-◌≺◌ {n} u v = n - u.at < n - v.at
-
-pub ≺-wf : (n : ℕ) → WellFounded (λ (u v : Turn n). ◌≺◌ u v)
-≺-wf n = InvImage.wf (λ (u : Turn n). n - u.at) lt-wf_rel.wf
 
 -- ---- the list d after i turns that put what f makes of the first n of s over it
 
@@ -70,14 +50,14 @@ map_over f d s =
     map-append f s (drop-list (length s) d) ∙ ap (λ (r : List _). map f s ++ r)
     (map_drop f (length s) d ∙ ap (λ (k : ℕ). drop-list k (map f d)) (sym (length-map s f)))
 
--- rows that have machine values are of five numbers, so that their entries' rows are they
-rows_again : (n : ℕ) (rows : List Row) (us : List Val) → shadow (each Row R.own_val rows us) → map row_of (map entry_of (take n rows)) ≡ take n rows
-rows_again zero rows us h = refl
-rows_again (suc n) [] us h = refl
-rows_again (suc n) (r ∷ rows) [] h = absurd h
-rows_again (suc n) (r ∷ rows) (u ∷ us) h = rw (row_of_entry r h.0.1.0.1, rows_again n rows us h.1)
+-- rows of five numbers are the rows of their entries
+rows_again : (n : ℕ) (rows : List Row) → ((k : ℕ) → k < n → k < length rows → length (get_or rows k []) ≡ 5) → map row_of (map entry_of (take n rows)) ≡ take n rows
+rows_again zero rows h = refl
+rows_again (suc n) [] h = refl
+rows_again (suc n) (r ∷ rows) h =
+    rw (row_of_entry r (h 0 (omega arith) (omega arith)), rows_again n rows (λ k u v. h (suc k) (omega arith) (omega arith)))
 
-pub put_rows : (n : ℕ) (rows : List Row) → Is Rows rows (rows_value.val rows ∷ []) → (ys zs : List Entry) → zs ≡ over ys (map entry_of (take n rows)) →
-    map row_of zs ≡ over (map row_of ys) (take n rows)
-put_rows n rows is ys zs e =
-    ap (map row_of) e ∙ map_over row_of ys (map entry_of (take n rows)) ∙ ap (over (map row_of ys)) (rows_again n rows is.0 is.1.1)
+pub put_rows : (n : ℕ) (rows : List Row) → ((k : ℕ) → k < n → k < length rows → length (get_or rows k []) ≡ 5) → (ys zs : List Entry) →
+    zs ≡ over ys (map entry_of (take n rows)) → map row_of zs ≡ over (map row_of ys) (take n rows)
+put_rows n rows h ys zs e =
+    ap (map row_of) e ∙ map_over row_of ys (map entry_of (take n rows)) ∙ ap (over (map row_of ys)) (rows_again n rows h)

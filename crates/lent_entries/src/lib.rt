@@ -1,6 +1,7 @@
 // The lent table of clause entries, and the few functions over it: an entry is taken out and handed to a covered function; the table is
 // taken in as the rows that the working table is made of, and put back.
 #![tactic(auto)]
+
 ghost use Rattle.std.specs.Prelude.{◌≡◌, map, ◌+◌, ◌≤◌, min, length, take};
 ghost use Rattle.table_slices.specs.Writes.{over};
 ghost use Rattle.table.specs.Spelled.{part};
