@@ -240,10 +240,11 @@ module _ {t : Table} {rows : List Row} {pool : List ℤ} {stack : List ℕ} (f :
         let b = same_split.2 in
         let i = same_id in
         let hi = ap (λ (s : State). s.highest) m.same in
-        let o = on_top m.fit at h₂ lits₁ wit place_zero holds_nothing fits deep₂ c w in
+        let o₂ = on_top m.fit at h₂ lits₁ wit place_zero holds_nothing fits deep₂ c w in
+        let o = rw i at o₂ in
         let d = ap (λ (n : ℕ). reverse (take n stack)) m.depth in
         moved_by f (record_fit m.fit at h₂ lits₁ wit place_zero holds_nothing fits deep₂ c w)
         (ap (λ (s : State). s.entries) m.same)
         (len₂ m.fit at h₂ lits₁ wit place_zero holds_nothing fits deep₂ c w ∙ ap (λ (s : State). s.words) m.same)
-        (rw (x, y, o, a, b, i, d, v, hi) (weakened t.vars t.highest t.entries (length pool) es₁ fs₁ (from_top t stack) (id_of r₁) lits₁
+        (rw (x, y, a, b, i, o, d, v, hi) (weakened t.vars t.highest t.entries (length pool) es₁ fs₁ (from_top t stack) (id_of r₁) lits₁
         (earlier us₁ r₁ bs₁ k₁) (later us₁ r₁ bs₁ k₁) wit groups unlisted))
