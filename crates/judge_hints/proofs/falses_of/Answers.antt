@@ -1,0 +1,10 @@
+-- All literals of c are left, since nothing is taken out.
+use mathlib.Core.Path.{◌∙◌}
+use Rattle.lit_sets.proofs.Sets.{zeros_empty}
+use Rattle.judge_hints.proofs.Target.{less_nothing}
+use borrow.Author.Rules.{rules}
+use Rattle.judge_hints.proofs.falses_of.Goals as goal
+
+pub returns : goal.returns
+returns c = c.make_false.ensures ∙ less_nothing _ c.args.c.now zeros_empty
+
