@@ -1,5 +1,6 @@
 // The hexadecimal lines of frames, and of a text's fault. What is written is defined in `specs/Lines`, byte by byte.
 #![tactic(auto)]
+
 ghost use Rattle.std.specs.Prelude.{◌+◌, ◌*◌, ◌≤◌, length};
 ghost use Rattle.line_read.specs.Lent.{Wrote};
 ghost use Rattle.dimacs_lines.specs.Lines.{frame_line, fault_line};
