@@ -1,5 +1,6 @@
 // The clauses of a text, word by word, and the text judged.
 #![tactic(auto)]
+
 ghost use Rattle.std.specs.Prelude.{◌≡◌, true, cond, ◌&&◌, [], ◌∷◌, ◌+◌, ◌≤◌, ◌<◌, length};
 ghost use Rattle.text.specs.Places.{word_at, Behind};
 ghost use Rattle.dimacs.specs.Reading.{spells, read_text, judged_text};
