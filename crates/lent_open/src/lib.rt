@@ -1,5 +1,6 @@
 // Opening, by sizes alone.
 #![tactic(auto)]
+
 ghost use Rattle.std.specs.Prelude.{◌≡◌};
 ghost use Rattle.rules.specs.Answers.{check_open};
 ghost use Rattle.lent_open.specs.Opened.{opened_with, unopened_with};
