@@ -1,5 +1,6 @@
 // The clauses of a text, handed out one by one as ADD frames.
 #![tactic(auto)]
+
 ghost use Rattle.std.specs.Prelude.{◌≡◌, false, [], ◌+◌, ◌≤◌, length};
 ghost use Rattle.table_slices.specs.Writes.{over};
 ghost use Rattle.text.specs.Words.{words_from};
