@@ -1,5 +1,6 @@
 // WEAKEN's writer: an irredundant clause becomes the topmost record of the stack, with its witness.
 #![tactic(auto)]
+
 ghost use Rattle.std.specs.Prelude.{◌≡◌, List, ◌+◌, ◌<◌, ◌≤◌, ℤ, length, set};
 ghost use Rattle.rules.specs.Frames.{WEAKEN};
 ghost use Rattle.table_slices.specs.Writes.{written};
