@@ -1,5 +1,6 @@
 // The words of a proof's lines, byte by byte, however the proof is cut: of a word that is on its way no byte is kept, but what they say so far.
 #![tactic(auto)]
+
 ghost use Rattle.std.specs.Prelude.{◌≡◌, ◌≤◌, length};
 ghost use Rattle.lrat.specs.Machine as machine;
 ghost use Rattle.lrat_words.specs.Taken.{TookWord};
