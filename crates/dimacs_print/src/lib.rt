@@ -1,5 +1,6 @@
 // The clauses of a text as lines of ADD frames, as many at a time as a lent buffer has room for.
 #![tactic(auto)]
+
 ghost use Rattle.std.specs.Prelude.{◌≡◌, ◌≤◌, length};
 ghost use Rattle.dimacs_print.specs.Printed.{Filling};
 
