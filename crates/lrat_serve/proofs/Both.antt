@@ -43,4 +43,4 @@ module _ (cnf : List ℕ) (rows' : List Row) (pool pool' : List ℤ) (stack : Li
     working_serves h bs (RulesFaulty f) told = absurd told
     working_serves h bs (Known a) told = λ more. told more ∙ same_answer (read_text cnf) refl h _
     working_serves h bs (Ended a) told = told ∙ same_answer (read_text cnf) refl h bs
-    working_serves h bs Unread told = tt
+    working_serves h bs (Unread reason) told = tt

@@ -8,6 +8,7 @@ use lib.Dec.{eqb}
 use lib.IntN.{ℤ}
 use lib.ListN.{length, replicate, length-replicate}
 use borrow.Author.Tests.{ne_eqb}
+use Rattle.std.specs.declared.io.Error.{Error}
 use Rattle.rules.specs.Terms.{State, in_range}
 use Rattle.rules.proofs.Lists.{by_cases, true-false, all_nil}
 use Rattle.lit_sets.proofs.Sets.{zeros_empty}
@@ -96,13 +97,13 @@ module _ {s : State} (small : s.vars ≤ 2048) {ended : Bool} {t : Table} {rows 
       ap told (over ∙ ap finish (sym (over_stays more here o) ∙ ap (λ m. run m more) ran ∙ sym (run_on (started s) read.bytes more)))
       ∙ run_is_the_proof s small (read.bytes ++ more)
 
-  pub tells : Tells s read.bytes (concluded ended r)
-  tells = by_cases r.over
+  pub tells : (reason : Error) → Tells s read.bytes (concluded ended r reason)
+  tells reason = by_cases r.over
       (λ o. by_cases ended (λ e. rw (o, e) (told_ended e)) (λ e. rw (o, e) (told_known e o)))
       (λ o. rw o tt)
 
 -- as it is told in the end: there are such bytes
 pub told_so : {s : State} → s.vars ≤ 2048 → {ended : Bool} {t : Table} {rows : List Row} {pool : List ℤ} {stack : List ℕ} {r : ProofReader} {lits : List ℤ}
-    {plus minus : List ℕ} → Read s ended t rows pool stack r lits plus minus → {b : Bool} {q : ProofReader} → q ≡ r → b ≡ ended →
-    (bs : List ℕ) × Tells s bs (concluded b q)
-told_so {s} small read e f = (read.bytes, subst₂ (λ x y. Tells s read.bytes (concluded x y)) (sym f) (sym e) (tells small read))
+    {plus minus : List ℕ} → Read s ended t rows pool stack r lits plus minus → {b : Bool} {q : ProofReader} (reason : Error) → q ≡ r →
+    b ≡ ended → (bs : List ℕ) × Tells s bs (concluded b q reason)
+told_so {s} small read reason e f = (read.bytes, subst₂ (λ x y. Tells s read.bytes (concluded x y reason)) (sym f) (sym e) (tells small read reason))

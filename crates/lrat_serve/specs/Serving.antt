@@ -1,5 +1,6 @@
 -- What checking a proof that is read in parts comes to. What was read is no value, so the promises speak of some bytes: those that were fed.
 use Rattle.std.specs.Prelude.{◌≡◌, Bool, cond, List, ◌++◌, ℕ, eqb, length}
+use Rattle.std.specs.declared.io.Error.{Error}
 use Rattle.rules.specs.Terms.{State}
 use Rattle.dimacs.specs.Reading.{fault_numbers}
 use Rattle.lrat.specs.Checking.{answer, check_proof, lrat}
