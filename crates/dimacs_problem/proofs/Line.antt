@@ -20,7 +20,7 @@ use Rattle.text_numbers.specs.declared.Numeral.TheVariants.{Number}
 use Rattle.dimacs.specs.Reading.{faulty, expect, expect_number, spells, read_clauses, counted, read_behind, count_of, read_number, read_count, read_vars}
 use Rattle.dimacs.specs.Reading.{read_format, read_problem, read_text, body_words}
 use Rattle.dimacs.specs.declared.TextFault.TheVariants.{NoProblemLine, MalformedWord, VarsOutOfRange}
-use Rattle.dimacs_problem.specs.Told.{More, CountTold, ProblemTold}
+use Rattle.dimacs_problem.specs.Told.{CountTold, ProblemTold}
 use Rattle.dimacs_problem.specs.declared.CountWord.TheVariants.{Counted, Uncounted}
 use Rattle.dimacs_problem.specs.declared.Problem.TheVariants.{Declared, Undeclared}
 use Rattle.dimacs_problem.proofs.Spelling.{spells_length, word_short}

@@ -38,10 +38,10 @@ pub stored : (w : ℕ) → w < 4294967296 → to_z w32 (of_z w32 (signed w)) ≡
 unfolding signed
 stored w h =
     let f : SFits w32 (signed w) =
-      elim (dec_lt w 2147483648) [
-        | yes a ↦ rw (lt-ltb w 2147483648 a) (record { sfits = omega arith })
-        | no a ↦ rw (le-ltb w 2147483648 (omega arith)) (record { sfits = omega arith })
-      ] in
+    elim (dec_lt w 2147483648) [
+      | yes a ↦ rw (lt-ltb w 2147483648 a) (record { sfits = omega arith })
+      | no a ↦ rw (le-ltb w 2147483648 (omega arith)) (record { sfits = omega arith })
+    ] in
     to_z-of_z f
 
 -- ---- from the word to its bits

@@ -1,15 +1,15 @@
 -- The loop that takes whole words: what holds at its head, and each way on.
 use mathlib.Core.Path.{◌≡◌, refl, sym, ap, ◌∙◌}
-use mathlib.Core.Bool.{Bool, true, false, cond, not, ◌&&◌}
+use mathlib.Core.Bool.{Bool, true, false, cond, ◌&&◌}
 use mathlib.Core.List.{List, [], ◌∷◌}
 use Prim.Native.Nat.{ℕ, suc, ◌+◌, ◌*◌, ◌/◌, ◌%◌, ◌≤◌, ◌<◌}
 use native.Mathlib.Omega.{arith}
 use lib.IntN.{ℤ}
 use lib.Dec.{eqb, ltb}
-use lib.ListN.{length, get_or, take, set, length-set}
+use lib.ListN.{length, take, set, length-set}
 use lib.Seq.{slice, slice_empty, take-suc-set}
 use Rattle.rules.specs.Lists.{all_pass}
-use Rattle.rules.proofs.Lists.{all_nil, all_cons, all_append}
+use Rattle.rules.proofs.Lists.{all_nil, all_append}
 use Rattle.line_hex.specs.Hex.{beyond, value_at, signed, digit, is_digit}
 use Rattle.line_hex.proofs.Digits.{value_digits}
 use Rattle.line_read.specs.Machine.{Line, grow, spoil, push, reads}

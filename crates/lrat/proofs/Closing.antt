@@ -66,7 +66,6 @@ suc_nonzero n = ap not (ne_eqb (suc n) 0 (λ z. omega arith))
 -- a number that is not 0 before them
 more : (w : TextWord) (ws : List TextWord) (z : ℤ) (u : Option Closed) → heard w.bytes ≡ number_heard z → nonzero z ≡ true → Upto ws u →
     Upto (w ∷ ws) (ahead z u)
-unfolding map
 more w ws z none e n r =
     record {
       numbers = z ∷ r.numbers;
@@ -79,7 +78,6 @@ more w ws z (some x) e n r = record { same = rw (e, r.same); others = all_cons n
 
 upto_word : (w : TextWord) (ws : List TextWord) (n : Option ℤ) (u : Option Closed) → integer_of w.bytes ≡ n → Upto ws u →
     Upto (w ∷ ws) (by_number n ws u)
-unfolding map
 upto_word w ws none u e r =
     record { numbers = []; rest = heard_words (w ∷ ws); same = refl; others = all_nil nonzero; stops = rw e (stops_other (is_d w.bytes) (heard_words ws)) }
 upto_word w ws (some (pos zero)) u e r = record { same = rw e; others = all_nil nonzero }
@@ -87,6 +85,6 @@ upto_word w ws (some (pos (suc n))) u e r = more w ws (pos (suc n)) u (ap (λ x.
 upto_word w ws (some (negsuc n)) u e r = more w ws (negsuc n) u (ap (λ x. heard_as x (is_d w.bytes)) e) (suc_nonzero n) r
 
 pub upto : (ws : List TextWord) → Upto ws (up_to_zero ws)
-unfolding up_to_zero map
+unfolding up_to_zero
 upto [] = record { numbers = []; rest = []; same = refl; others = all_nil nonzero; stops = tt }
 upto (w ∷ ws) = upto_word w ws (integer_of w.bytes) (up_to_zero ws) refl (upto ws)

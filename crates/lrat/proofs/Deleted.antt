@@ -65,7 +65,7 @@ ids_phase [] t = refl
 ids_phase (i ∷ is) t = ids_phase is (id_taken i t) ∙ id_phase i t
 
 pub ids_run : (is : List ℤ) (t : Step) → t.reading.line.phase ≡ 5 → all_pass nonzero is ≡ true → takes t (numbers_heard is) ≡ ids_taken t is
-unfolding takes ids_taken map
+unfolding takes ids_taken
 ids_run [] t at n = refl
 ids_run (i ∷ is) t at n =
     ap (λ x. takes x (numbers_heard is)) (word_taken t.state t.reading at i (all_head nonzero i is n))
@@ -110,7 +110,7 @@ pub record IdsTaken (s : State) (is : List ℕ) (t : Step) : Type 0 where
   pub state : check_deletion s is ≡ 0 → t.state ≡ all_gone s is
 
 pub all_ids : (is : List ℤ) (t : Step) → t.reading.line.noted ≡ 37 → all_pass positive is ≡ true → IdsTaken t.state (map nat_abs is) (ids_taken t is)
-unfolding ids_taken check_deletion all_gone map
+unfolding ids_taken check_deletion all_gone
 all_ids [] t e p = record { code = rw e; state = λ q. refl }
 all_ids (pos i ∷ is) t e p =
     let rest = all_tail positive (pos i) is p in

@@ -39,7 +39,7 @@ run_on m (x ∷ xs) ys = run_on (move m x) xs ys
 -- where a word ends it is taken, if one was begun
 word_ends : (m : Session) (k : ProofWord) (first : Bool) (at : ℕ) (w : List ℕ) → is_word k ≡ false → m.word ≡ pushes k w →
     end_word m ≡ word_taken m (takes (step m.state m.reading) (heard_words (ended_word first at w)))
-unfolding end_word takes pushes map
+unfolding end_word takes pushes
 word_ends m k first at [] n e = rw (e, n)
 word_ends m k first at (b ∷ w) n e = let s = spoken k b w n in rw (e, s.going, s.heard_so)
 

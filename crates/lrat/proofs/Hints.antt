@@ -85,7 +85,7 @@ hints_same (h ∷ hints) A r =
 
 pub hints_run : (hints : List ℤ) (s : State) (r : Reading) → r.line.phase ≡ 3 → all_pass nonzero hints ≡ true →
     takes (step s r) (numbers_heard hints) ≡ step s (hints_taken (among (everything s)) r hints)
-unfolding takes hints_taken map
+unfolding takes hints_taken
 hints_run [] s r at n = refl
 hints_run (h ∷ hints) s r at n =
     let A = among (everything s) in
@@ -144,7 +144,7 @@ read_on bad n A r hints a e go = let d = decided_stays hints A (looked_at bad r)
 
 pub hints_read : (hints : List ℤ) (n : ℕ) (A : Allowed) (r : Reading) → all_pass not_negative hints ≡ true → r.line.proof ≡ 0 →
     eqb (hints_taken A r hints).line.proof 1 ≡ is_proved (run A r.falses n (map named_by hints)).verdict
-unfolding hints_taken run map
+unfolding hints_taken run
 hints_read [] n A r a e = rw e
 hints_read (pos i ∷ hints) n A r a e =
     let rest = all_tail not_negative (pos i) hints a in

@@ -81,7 +81,7 @@ shut_word Other s r h = refl
 -- words behind the last 0 of a line
 behind_shut : (ws : List TextWord) (l : Line) (s : State) (t : Step) → Shut t.reading → 31 ≤ t.reading.line.noted → LineRead s l t →
     LineRead s (at_end ws l) (takes t (heard_words ws))
-unfolding map takes
+unfolding takes
 behind_shut [] l s t h k r = r
 behind_shut (w ∷ ws) l s t h k r =
     wrong_read s _ (wrong_word (heard w.bytes) (heard_words ws) t k (shut_word (heard w.bytes) t.state t.reading h))
@@ -295,7 +295,6 @@ module _ (s : State) (i : ℤ) (r : Reading) (small : s.vars ≤ 2048) (I : IdRe
   -- unclosed literals
   literals_short : (c : List ℤ) (rest : List LineWord) → all_pass nonzero c ≡ true → Stops rest → NoD (numbers_heard c ++ rest) →
       Wrong (takes (step s r) (numbers_heard c ++ rest))
-  unfolding map
   literals_short [] rest n h d = let p = I.phase in stops_at_once rest (step s r) h d (omega (arith, I.noted)) (rw p) (rw p)
   literals_short (l ∷ c) rest n h d =
       let ran = literals_run (l ∷ c) s r small (behind_id_read I) n in
@@ -358,7 +357,7 @@ id_first (negsuc n) s F = refl
 
 module _ (s : State) (F : Literals) (small : s.vars ≤ 2048) where
   after_id : (ws : List TextWord) (i : ℤ) → LineRead s (behind_id (some i) ws) (takes (step s (id_behind F i)) (heard_words ws))
-  unfolding takes map take_word
+  unfolding takes take_word
   after_id [] i = wrong_read s _ (code_unclosed s (id_behind F i) refl refl)
   after_id (w ∷ ws) i = by_cases (is_d w.bytes)
       (λ d.
@@ -374,7 +373,7 @@ module _ (s : State) (F : Literals) (small : s.vars ≤ 2048) where
 
   by_first : (w : TextWord) (ws : List TextWord) (n : Option ℤ) → integer_of w.bytes ≡ n →
       LineRead s (behind_id n ws) (takes (step s (unread F)) (heard_words (w ∷ ws)))
-  unfolding takes map take_word
+  unfolding takes take_word
   by_first w ws none e =
       wrong_read s _ (wrong_word (heard w.bytes) (heard_words ws) (step s (unread F)) (omega arith)
       (ap (λ n. take_word s (heard_as n (is_d w.bytes)) (unread F)) e ∙ no_number (is_d w.bytes)))
@@ -387,6 +386,6 @@ module _ (s : State) (F : Literals) (small : s.vars ≤ 2048) where
       ∙ ap (λ t. takes t (heard_words ws)) (id_first i s F)) (after_id ws i)
 
   pub words_line : (ws : List TextWord) → LineRead s (read_words ws) (takes (step s (unread F)) (heard_words ws))
-  unfolding takes map
+  unfolding takes
   words_line [] = wrong_read s _ (code_unclosed s (unread F) refl refl)
   words_line (w ∷ ws) = by_first w ws (integer_of w.bytes) refl

@@ -1,7 +1,7 @@
 -- The literals of a line, taken one by one: kept where none is past V and at most 256 come, and else a number of refusal is noted.
 use mathlib.Core.Path.{◌≡◌, refl, sym, ap, ◌∙◌}
 use mathlib.Core.Bool.{Bool, true, false, cond, ◌||◌}
-use mathlib.Core.List.{List, [], ◌∷◌, ◌++◌, map, append-nil, append_assoc}
+use mathlib.Core.List.{List, [], ◌∷◌, ◌++◌, append-nil, append_assoc}
 use Prim.Native.Nat.{ℕ, zero, suc, ◌+◌, ◌-◌, ◌≤◌, ◌<◌, min}
 use native.Mathlib.Omega.{arith}
 use native.Mathlib.Decide.{dec_lt}
@@ -72,7 +72,7 @@ phase_two vars l r = by_cases (in_range vars l) (λ e. by_cases (ltb r.line.coun
 
 pub literals_run : (c : List ℤ) (s : State) (r : Reading) → s.vars ≤ 2048 → AmongLiterals r → all_pass nonzero c ≡ true →
     takes (step s r) (numbers_heard c) ≡ step s (literals_taken s.vars r c)
-unfolding takes literals_taken map
+unfolding takes literals_taken
 literals_run [] s r small at n = refl
 literals_run (l ∷ c) s r small at n =
     ap (λ t. takes t (numbers_heard c)) (literal_taken s r small at l (all_head nonzero l c n))

@@ -1,5 +1,5 @@
 -- Document 02, request 3: "Check such a file against a CNF text, read by request 1 into tables of its own".
-use Rattle.std.specs.Prelude.{◌≡◌, Bool, true, false, cond, ◌&&◌, ◌||◌, List, [], ◌∷◌, map, ℕ, ◌+◌, min, eqb, ltb, leb, ℤ, pos, negsuc, length}
+use Rattle.std.specs.Prelude.{Bool, true, false, cond, ◌&&◌, ◌||◌, List, [], ◌∷◌, map, ℕ, ◌+◌, min, eqb, ltb, leb, ℤ, pos, negsuc, length}
 use Rattle.rules.specs.Lists.{all_pass}
 use Rattle.rules.specs.Terms.{State, in_range, is_clause, null, has, everything, room}
 use Rattle.rules.specs.Propagation.{among, proves}

@@ -1,6 +1,6 @@
 -- The same as a machine over bytes: what is kept of a line does not grow with it. That its run is the definition's answer, wherever the proof is cut, is proved
 -- in proofs/Runs.
-use Rattle.std.specs.Prelude.{Bool, true, false, not, cond, ◌&&◌, ◌||◌, List, [], ◌∷◌, ◌++◌, ℕ, zero, suc, ◌+◌, ◌-◌, ◌*◌, min, eqb, ltb, leb, ℤ, pos, neg_ℤ, length, take}
+use Rattle.std.specs.Prelude.{Bool, true, false, not, cond, ◌&&◌, ◌||◌, List, [], ◌∷◌, ◌++◌, ℕ, ◌+◌, ◌-◌, ◌*◌, min, eqb, ltb, leb, ℤ, neg_ℤ}
 use Rattle.rules.specs.Terms.{Literals, State, in_range, holds, is_clause, null, everything}
 use Rattle.rules.specs.Propagation.{Named, nobody, Allowed, among, Looked, conflict, forced, bad, judge, also}
 use Rattle.rules.specs.Frames.{LEARN, next}
@@ -14,7 +14,6 @@ use Rattle.lrat.specs.declared.LineWord.{LineWord}
 use Rattle.lrat.specs.declared.LineWord.TheVariants.{Number, Deletion, Other}
 use Rattle.lrat.specs.declared.ProofWord.{ProofWord}
 use Rattle.lrat.specs.declared.ProofLine.{ProofLine}
-use Rattle.lrat.specs.declared.ProofReader.{ProofReader}
 
 -- ---- a word
 

@@ -1,11 +1,11 @@
 -- Bytes of a word, one more at a time.
-use mathlib.Core.Path.{◌≡◌, refl, sym, ◌∙◌, ap}
-use mathlib.Core.Bool.{true, false, not}
-use mathlib.Core.List.{List, [], ◌∷◌, ◌++◌}
+use mathlib.Core.Path.{◌≡◌, sym, ◌∙◌, ap}
+use mathlib.Core.Bool.{false}
+use mathlib.Core.List.{List, []}
 use Prim.Native.Nat.{ℕ, ◌+◌, ◌≤◌, ◌<◌}
 use native.Mathlib.Omega.{arith}
 use lib.ListN.{length, get_or}
-use lib.Seq.{slice, slice_empty}
+use lib.Seq.{slice_empty}
 use Rattle.rules.proofs.Lists.{all_nil, all_cons, all_append}
 use Rattle.text.specs.Words.{is_blank}
 use Rattle.text.proofs.Slices.{slice_snoc}

@@ -1,5 +1,4 @@
 use Rattle.std.proofs.Common.{arith, ◌∙◌}
-use Rattle.rules.specs.Terms.{same}
 use Rattle.text.proofs.Words.{comment_closed, comment_last, words_opened}
 use Rattle.text.proofs.past_comments.Goals as goal
 

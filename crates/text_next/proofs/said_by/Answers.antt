@@ -1,5 +1,4 @@
 use Rattle.std.proofs.Common.{arith, refl}
-use Rattle.rules.specs.Answers.{fits}
 use Rattle.text_next.proofs.Digits.{pairs_fit, said_eight}
 use Rattle.text_next.proofs.said_by.Goals as goal
 
