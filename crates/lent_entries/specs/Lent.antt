@@ -5,7 +5,7 @@ use Rattle.std.proofs.Common.{arith}
 use Rattle.rules.specs.Terms.{State}
 use Rattle.rules.specs.Answers.{lent}
 use Rattle.table_slices.specs.Writes.{over}
-use Rattle.table.specs.Spelled.{Row, id_of, place_of, start_of, length_of, witness_of, part, clause_part, witness_part}
+use Rattle.table.specs.Spelled.{Row, id_of, place_of, start_of, length_of, witness_of, clause_part, witness_part}
 use Rattle.lent.specs.State.{state_carried}
 use Rattle.lent.specs.declared.Carried.{Carried}
 use Rattle.lent_entries.specs.declared.Entry.{Entry}

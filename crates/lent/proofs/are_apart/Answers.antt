@@ -1,8 +1,7 @@
-use Rattle.std.proofs.Common.{◌≡◌, ◌+◌, ◌<◌, ◌≤◌, Bool, [], length, arith, rules}
+use Rattle.std.proofs.Common.{◌≡◌, ◌+◌, [], arith, rules}
 use Rattle.rules.proofs.Lists.{all_index}
 use Rattle.table.specs.Spelled.{Row, row_at, start_of, size}
 use Rattle.lent.specs.State.{inside}
-use Rattle.lent.specs.Marks.{Takes}
 use Rattle.lent.proofs.Judged.{inside_filled}
 use Rattle.lent.proofs.Parts.{takes_same, parted_start, parted_end, parted_overlap, parted_next}
 use Rattle.lent.proofs.are_apart.Goals as goal

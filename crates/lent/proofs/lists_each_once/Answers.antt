@@ -1,4 +1,4 @@
-use Rattle.std.proofs.Common.{◌≡◌, sym, ◌∙◌, ◌<◌, arith, rules}
+use Rattle.std.proofs.Common.{sym, ◌∙◌, arith, rules}
 use Rattle.table.proofs.Finding.{nowhere}
 use Rattle.lent.proofs.Ticking.{ticked_start, ticked_end, unstacked, misplaced, repeated, ticked_next}
 use Rattle.lent.proofs.lists_each_once.Goals as goal

@@ -1,4 +1,4 @@
-use Rattle.std.proofs.Common.{◌≡◌, ◌∙◌, ap, ◌≤◌, ◌<◌, ◌+◌, List, [], ◌∷◌, ℕ, zero, suc, length, take, map, set, get_or, arith, rules}
+use Rattle.std.proofs.Common.{◌≡◌, ◌∙◌, ap, ◌<◌, List, [], ◌∷◌, ℕ, zero, suc, length, take, map, set, get_or, arith, rules}
 use Rattle.table_slices.specs.Writes.{over}
 use Rattle.table.specs.Spelled.{Row}
 use Rattle.lent_entries.specs.Lent.{entry_of}

@@ -1,4 +1,4 @@
-use Rattle.std.proofs.Common.{◌≡◌, ◌∙◌, ap, ◌≤◌, ◌+◌, List, ℕ, length, min, take, map, set, get_or, arith, rules}
+use Rattle.std.proofs.Common.{◌≡◌, ◌∙◌, ap, List, ℕ, length, min, take, map, set, arith, rules}
 use Rattle.table_slices.specs.Writes.{over}
 use Rattle.table.specs.Spelled.{Row}
 use Rattle.lent_entries.specs.Lent.{row_of, vacant, vacant_rows}

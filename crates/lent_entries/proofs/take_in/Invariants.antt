@@ -1,5 +1,5 @@
 -- The first i entries are taken, over rows that hold nothing.
-use Rattle.std.proofs.Common.{◌≡◌, ◌≤◌, ◌-◌, length}
+use Rattle.std.proofs.Common.{◌≡◌, ◌≤◌, ◌-◌}
 use Rattle.lent_entries.specs.Lent.{row_of, vacant_rows}
 use Rattle.lent_entries.proofs.Copying.{copied}
 use Rattle.lent_entries.proofs.take_in.Given as goal

@@ -1,6 +1,5 @@
-use Rattle.std.proofs.Common.{◌≡◌, ap, arith, not, eq-eqb}
+use Rattle.std.proofs.Common.{ap, arith, not, eq-eqb}
 use borrow.Author.Tests.{ne_eqb}
-use Rattle.table_room.specs.Room.{ClosedUp}
 use Rattle.table_room.proofs.Squeezing.{closing_start, closing_kept, closing_left_out}
 use Rattle.table_room.proofs.close_up.Goals as goal
 

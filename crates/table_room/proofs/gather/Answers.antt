@@ -1,8 +1,7 @@
-use Rattle.std.proofs.Common.{◌≡◌, refl, sym, ◌∙◌, ap, ◌+◌, ◌≤◌, List, length, length-set, arith}
+use Rattle.std.proofs.Common.{◌≡◌, ◌∙◌, ap, ◌+◌, ◌≤◌, List, length, length-set, arith}
 use lib.IntN.{ℤ}
 use Rattle.table.specs.Spelled.{Row, row_at, start_of, size, part, Inside}
 use Rattle.table_slices.specs.Writes.{written}
-use Rattle.table_room.specs.Room.{Gathered}
 use Rattle.table_slices.proofs.Slices.{length_tail, tail_written, length_written}
 use Rattle.table.proofs.Rows.{part_length}
 use Rattle.table_room.proofs.Packing.{inside_here, room_here, gathered_next}

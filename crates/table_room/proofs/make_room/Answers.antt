@@ -1,5 +1,4 @@
 use Rattle.std.proofs.Common.{refl, arith}
-use Rattle.table_room.proofs.Packing.{roomy_less}
 use Rattle.table_room.proofs.make_room.Goals as goal
 
 pub returns : goal.returns
