@@ -1,0 +1,9 @@
+-- The ids rise, and the buffers keep their sizes.
+use Rattle.std.proofs.Common.{◌≡◌, ◌≤◌, ◌-◌, length}
+use Rattle.zahrubel_dimacs.proofs.print_text.Given as goal
+
+abbrev pub invariant-loop-at : goal.invariant-loop-at
+invariant-loop-at l = (258 ≡ length l.frame) × (65536 ≡ length l.out) × (l.cursor.id ≤ 2147483647)
+
+abbrev pub decreases-loop-at : goal.decreases-loop-at
+decreases-loop-at l = 2147483647 - l.cursor.id
