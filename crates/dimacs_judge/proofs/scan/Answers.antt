@@ -47,7 +47,7 @@ returns-then-n-eq257 c =
     let w = c.next_word-w in
     let within : w.result.read.value ≤ c.args.vars = omega (arith, c.if-wide-value.false, c.wide.ensures) in
     scan_long c.loop-i.invariant _ w.ensures (not-false c.if-not-read.false) c.requires.few within _ c.if-stops.ensures _ c.longer-n.ensures.0
-    c.if-n-eq257.true _
+    (omega arith) _
 
 pub loop-i-smaller : goal.loop-i-smaller
 loop-i-smaller c =
@@ -62,7 +62,7 @@ loop-i-preserved c =
     rw (c.literal_of.ensures, to_z-of_z (sign_fits w.result.read.minus w.result.read.value small))
     (scan_on c.loop-i.invariant _ w.ensures (not-false c.if-not-read.false) c.requires.few within _ c.if-stops.ensures _ c.longer-n.ensures.0 _
     c.bit-stamp.ensures.0
-    c.if-n-eq257.false)
+    (λ e. omega arith))
 
 -- ---- no word is left
 
