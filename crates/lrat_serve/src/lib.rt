@@ -1,7 +1,7 @@
 // A proof read in parts and fed as it comes, against rules that fill tables of this call's own: of a proof of any length only a part is in memory.
 #![tactic(auto)]
 
-ghost use Rattle.std.specs.Prelude.{◌≡◌, List, ℕ, length};
+ghost use Rattle.std.specs.Prelude.{◌≡◌, ◌≤◌, List, ℕ, length};
 ghost use Rattle.table.specs.Spelled.{Fit, spelled};
 ghost use Rattle.lrat_feed.specs.Feeding.{Feedable, Feeds, session_of};
 ghost use Rattle.lrat_serve.specs.Serving.{Tells, Serves, onward, concluded};
