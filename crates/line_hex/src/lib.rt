@@ -5,6 +5,7 @@ ghost use Rattle.std.specs.Prelude.{◌≡◌, ◌+◌, ◌≤◌, ◌<◌, leng
 ghost use Rattle.line_hex.specs.Hex.{digit, value_at, signed, unsigned, Values};
 
 // What a byte counts as: a digit its value, any other more than any word.
+#[tactic(auto, unfolding(crate::specs::Hex::digit))]
 pub fn value(b: usize) -> u64
     ensures { result ≡ digit b }
 {
