@@ -1,5 +1,6 @@
 // What is right about the rows lent, how many words they hold and where the last of them ends: they are only read.
 #![tactic(auto)]
+
 ghost use Rattle.std.specs.Prelude.{◌≡◌, true, ℕ, ◌+◌, ◌<◌, ◌≤◌, length};
 ghost use Rattle.rules.specs.Lists.{all_pass};
 ghost use Rattle.rules.specs.Terms.{is_clause, is_witness};

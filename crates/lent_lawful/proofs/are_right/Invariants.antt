@@ -1,0 +1,20 @@
+-- `lent_lawful::are_right` meets its contract. The loop's invariant: those before k are right.
+use mathlib.Core.Path.{◌≡◌, refl, sym, ◌∙◌, ap}
+use mathlib.Core.Bool.{Bool, ◌&&◌}
+use mathlib.Core.List.{[]}
+use Prim.Native.Nat.{◌+◌, ◌-◌, ◌≤◌}
+use native.Mathlib.Omega.{arith}
+use lib.ListN.{length, drop}
+use Rattle.rules.specs.Lists.{all_pass}
+use Rattle.rules.proofs.Lists.{all_on, all_past}
+use Rattle.table.specs.Spelled.{Row}
+use Rattle.lent_lawful.specs.Rights.{right}
+use borrow.Author.Rules.{rules}
+use borrow.Author.Tests.{not-true, not-false}
+use Rattle.lent_lawful.proofs.are_right.Given as goal
+
+abbrev pub invariant-loop-k : goal.invariant-loop-k
+invariant-loop-k l = (all_pass (right l.vars l.highest l.pool) l.rows ≡ all_pass (right l.vars l.highest l.pool) (drop l.k l.rows)) × (l.k ≤ length l.rows)
+
+abbrev pub decreases-loop-k : goal.decreases-loop-k
+decreases-loop-k l = length l.rows - l.k
