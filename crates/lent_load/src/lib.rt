@@ -1,5 +1,6 @@
 // Whether what is lent and carried is a state, and the working table made of it.
 #![tactic(auto)]
+
 ghost use Rattle.std.specs.Prelude.{◌≡◌, true, ◌≤◌, length};
 ghost use Rattle.rules.specs.Lists.{all_pass};
 ghost use Rattle.table.specs.Spelled.{Rising};
