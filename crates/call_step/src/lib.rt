@@ -1,5 +1,6 @@
 // The public calls over the lent tables. Any bits may be handed in.
 #![tactic(auto)]
+
 ghost use Rattle.std.specs.Prelude.{◌≡◌, ◌≤◌, length};
 ghost use Rattle.call_step.specs.Calls.{Opening, Stepping};
 ghost use Rattle.call_step.specs.Running.{StepRun, Running, step_left, step_stored};
