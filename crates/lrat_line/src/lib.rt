@@ -1,6 +1,7 @@
 // A line of a proof on the working table, word by word: what is kept of it does not grow with it. Literals are kept, hints are read as they come, deleted
 // clauses go as their ids come; the least number of refusal that was noted decides at the line's end.
 #![tactic(auto)]
+
 ghost use Rattle.std.specs.Prelude.{◌≡◌, ◌≤◌};
 ghost use Rattle.rules.specs.Terms.{everything};
 ghost use Rattle.rules.specs.Propagation.{among, judge};

@@ -1,0 +1,23 @@
+-- Each return is one law of Deletions, by where the clause was found.
+use mathlib.Core.Path.{◌≡◌}
+use mathlib.Core.Bool.{false}
+use mathlib.Core.List.{[]}
+use native.Mathlib.Omega.{arith}
+use borrow.Author.Rules.{rules}
+use Rattle.rules.specs.Terms.{has}
+use Rattle.table.specs.Spelled.{clauses, held_rows}
+use Rattle.judge_checks.specs.Located.{RowOf}
+use Rattle.judge_checks.proofs.Located.{found, missing}
+use Rattle.lrat_line.proofs.Deletions.{not_an_id, not_held, forgotten, dropped}
+use Rattle.lrat_line.proofs.take_deleted.Goals as goal
+
+pub returns-in-At : goal.returns-in-At
+returns-in-At c =
+    let learned : RowOf c.args.t c.args.rows.now 1 c.args.v c.in-At.k = found _ _ _ _ _ c.in-At.is c.locate.ensures in
+    forgotten c.requires _ _ c.if-v-gt2147483647.false _ _ _ learned (c.remove.ensures [])
+
+pub returns-in-At-locate : goal.returns-in-At-locate
+returns-in-At-locate c =
+    let not_learned : has (clauses 1 c.args.pool.now (held_rows c.args.t c.args.rows.now)) c.args.v ≡ false = missing _ _ _ _ c.in_default.is c.locate.ensures c.args.pool.now in
+    let irredundant : RowOf c.args.t c.args.rows.now 0 c.args.v c.in-At-locate.k = found _ _ _ _ _ c.in-At-locate.is c.locate-2.ensures in
+    dropped c.requires _ _ c.if-v-gt2147483647.false _ _ _ not_learned irredundant (c.remove-in-At-locate.ensures [])
