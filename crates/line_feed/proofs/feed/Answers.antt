@@ -1,0 +1,97 @@
+-- The loop by line_read's Feeding, one law for each way on; what it keeps of the tables is in Tables.
+use mathlib.Core.Path.{◌≡◌, refl, ◌∙◌}
+use mathlib.Core.List.{List}
+use Prim.Native.Nat.{ℕ, ◌+◌, ◌-◌, ◌≤◌, ◌<◌}
+use native.Mathlib.Omega.{arith}
+use lib.ListN.{length}
+use Rattle.table.specs.Spelled.{spelled}
+use Rattle.line_hex.specs.Hex.{Values}
+use Rattle.line_read.specs.Machine.{Session, frame, session_of}
+use Rattle.line_read.proofs.Feeding.{Feeding, feeding_start, feeding_words, feeding_push, feeding_close, fed_room, fed_end}
+use Rattle.line_feed.proofs.Tables.{Tables, tables_start, tables_more}
+use borrow.Author.Rules.{rules}
+use Rattle.line_feed.proofs.feed.Goals as goal
+
+pub loop-i-init : goal.loop-i-init
+loop-i-init c =
+    let p = c.requires in
+    let a = c.args in (
+      feeding_start _ _ a.r _ (spelled a.t a.rows.now a.pool.now a.stack.now) _ _ p.1 p.0.most p.2 p.0.fit.vars_fit.1
+          p.0.wide,
+      tables_start p.0.fit,
+      c.values-values.ensures,
+      refl,
+      refl,
+      refl,
+      refl,
+    )
+
+pub loop-i-preserved-then-b-eq10 : goal.loop-i-preserved-then-b-eq10
+loop-i-preserved-then-b-eq10 c =
+    let part : List ℕ = c.args.part.now in
+    let room : c.loop-i.a + 16401 ≤ length c.args.out.now = omega (arith, c.if-out-a-lt16401.false, c.loop-i.invariant.0.room, c.loop-i.invariant.0.kept) in
+    let words : Feeding part c.args.from c c.take_words-taken.last.1.1.1.1.0 c.args.out.now c.loop-i.out c.take_words-taken.result.from c.loop-i.a c.take_words-taken.result.reader (spelled c.loop-i.table c.loop-i.rows c.loop-i.pool c.loop-i.stack) c.loop-i.altered = feeding_words c.loop-i.invariant.0 room c.take_words-taken.ensures c.take_words-taken.kept.1.1.1.1.0 in
+    let more : c.take_words-taken.result.from < length part = omega (arith, words.high, c.if-i-part.false) in
+    let v = c.loop-i.invariant in
+    let k = c.close-closed in
+    let told = c.either-altered.ensures in
+    let one = k.ensures.1.1.told_so in (
+      rw (told, one) (feeding_close words room more c.if-b-eq10.taken c.fresh-reader.ensures k.ensures.1.0
+          k.kept.1.1.1.1.1.1.0),
+      tables_more v.1 k.ensures.0 k.ensures.1.1 told,
+      v.2,
+      c.take_words-taken.kept.1.1.1.1.0 ∙ v.3,
+      k.kept.1.1.0 ∙ v.4,
+      k.kept.1.1.1.0 ∙ v.5,
+      k.kept.1.1.1.1.0 ∙ v.6,
+    )
+
+pub loop-i-preserved : goal.loop-i-preserved
+loop-i-preserved c =
+    let part : List ℕ = c.args.part.now in
+    let room : c.loop-i.a + 16401 ≤ length c.args.out.now = omega (arith, c.if-out-a-lt16401.false, c.loop-i.invariant.0.room, c.loop-i.invariant.0.kept) in
+    let words : Feeding part c.args.from c c.take_words-taken.last.1.1.1.1.0 c.args.out.now c.loop-i.out c.take_words-taken.result.from c.loop-i.a c.take_words-taken.result.reader (spelled c.loop-i.table c.loop-i.rows c.loop-i.pool c.loop-i.stack) c.loop-i.altered = feeding_words c.loop-i.invariant.0 room c.take_words-taken.ensures c.take_words-taken.kept.1.1.1.1.0 in
+    let more : c.take_words-taken.result.from < length part = omega (arith, words.high, c.if-i-part.false) in
+    let v = c.loop-i.invariant in
+    let k = c.push_byte-reader in (
+      feeding_push words room more c.if-b-eq10.false k.ensures.0 k.ensures.1 k.auto.1.0,
+      v.1,
+      v.2,
+      k.auto.1.0 ∙ c.take_words-taken.kept.1.1.1.1.0 ∙ v.3,
+      v.4,
+      v.5,
+      v.6,
+    )
+
+pub returns-after-loop-i-clause-fed : goal.returns-after-loop-i-clause-fed
+returns-after-loop-i-clause-fed c =
+    let v = c.loop-i.invariant in
+    let f = v.0 in
+    (record { fit = v.1.fit; most = f.most; wide = f.wide }, (fed_end f c.loop-i-test.false, record { told_so = f.told; left = v.1.left }))
+
+pub returns-then-out-a-lt16401-clause-fed : goal.returns-then-out-a-lt16401-clause-fed
+returns-then-out-a-lt16401-clause-fed c =
+    let v = c.loop-i.invariant in
+    let f = v.0 in (
+      record { fit = v.1.fit; most = f.most; wide = f.wide },
+      (fed_room f (omega (arith, c.if-out-a-lt16401.true, f.kept)), record { told_so = f.told; left = v.1.left }),
+    )
+
+pub returns-then-i-part-clause-fed : goal.returns-then-i-part-clause-fed
+returns-then-i-part-clause-fed c =
+    let part : List ℕ = c.args.part.now in
+    let room : c.loop-i.a + 16401 ≤ length c.args.out.now = omega (arith, c.if-out-a-lt16401.false, c.loop-i.invariant.0.room, c.loop-i.invariant.0.kept) in
+    let words : Feeding part c.args.from c c.take_words-taken.last.1.1.1.1.0 c.args.out.now c.loop-i.out c.take_words-taken.result.from c.loop-i.a c.take_words-taken.result.reader (spelled c.loop-i.table c.loop-i.rows c.loop-i.pool c.loop-i.stack) c.loop-i.altered = feeding_words c.loop-i.invariant.0 room c.take_words-taken.ensures c.take_words-taken.kept.1.1.1.1.0 in
+    let v = c.loop-i.invariant in
+    let f = words in
+    (record { fit = v.1.fit; most = f.most; wide = f.wide }, (fed_end f (omega (arith, c.if-i-part.true)), record { told_so = f.told; left = v.1.left }))
+
+pub returns-then-i-part-clause-altered : goal.returns-then-i-part-clause-altered
+returns-then-i-part-clause-altered c =
+    let part : List ℕ = c.args.part.now in
+    let room : c.loop-i.a + 16401 ≤ length c.args.out.now = omega (arith, c.if-out-a-lt16401.false, c.loop-i.invariant.0.room, c.loop-i.invariant.0.kept) in
+    let words : Feeding part c.args.from c c.take_words-taken.last.1.1.1.1.0 c.args.out.now c.loop-i.out c.take_words-taken.result.from c.loop-i.a c.take_words-taken.result.reader (spelled c.loop-i.table c.loop-i.rows c.loop-i.pool c.loop-i.stack) c.loop-i.altered = feeding_words c.loop-i.invariant.0 room c.take_words-taken.ensures c.take_words-taken.kept.1.1.1.1.0 in
+    let v = c.loop-i.invariant in
+    let f = words in
+    (record { fit = v.1.fit; most = f.most; wide = f.wide }, (fed_end f (omega (arith, c.if-i-part.true)), record { told_so = f.told; left = v.1.left }))
+
