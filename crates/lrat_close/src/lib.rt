@@ -1,5 +1,6 @@
 // The end of a proof's line: judged by &, and a clause that passed goes into the table only then. Once the answer is known the table is empty.
 #![tactic(auto)]
+
 ghost use Rattle.std.specs.Prelude.{◌≡◌, List, ◌≤◌, min, ℤ, length, take};
 ghost use Rattle.rules.specs.Terms.{Literals, State};
 ghost use Rattle.table.specs.Spelled.{Fit, spelled};

@@ -10,8 +10,7 @@ use Rattle.table.specs.Spelled.{Row, Fit, spelled}
 use Rattle.table.specs.declared.Table.{Table}
 use Rattle.table.proofs.Readers.{gone_most, count_held, words_held}
 use Rattle.lrat.specs.Checking.{ask_room}
-use Rattle.lrat_close.proofs.room_code.Statement.{statement}
-use Rattle.lrat_close.proofs.room_code.Tie as tie
+use Rattle.lrat_close.proofs.room_code.Goals as goal
 
 -- the rows in use, less those whose clause is gone, are the clauses held
 module _ {t : Table} {rows : List Row} {pool : List ℤ} {stack : List ℕ} (f : Fit t rows pool stack) (c : List ℤ) {n : ℕ} (e : length c ≡ n) where
@@ -27,19 +26,11 @@ module _ {t : Table} {rows : List Row} {pool : List ℤ} {stack : List ℕ} (f :
     left k =
         rw (count_held f, lt-ltb (t.count - t.gone) t.entries (omega (arith, gone_most f)), words_held f, e, le-leb (t.words + n) (length pool) k) refl
 
-abbrev start : tie.Else1 → tie.Start
-start x = x.before.before.before.before.before
+pub returns-then-most-count : goal.returns-then-most-count
+returns-then-most-count c k e = full c.requires.0 k e c.if-most-count.true
 
-pub room_code_spec : {M : Type 1} → statement M
-room_code_spec =
-    tie.close
-    (tie.spec
-    (λ c. search rules)  -- cast-count
-    (λ c. search rules)  -- cast-most
-    (λ c. search rules)  -- cast-most-2
-    (λ c. search rules)  -- add-most
-    (λ c. search rules)  -- cast-words
-    (λ c. search rules)  -- add-words
-    (λ c k e. full c.before.before.before.before.before.requires.0 k e c.if1.true)  -- returns
-    (λ c k e. used_up (start c.before).requires.0 k e c.before.if1.false c.if2.true)  -- returns-2
-    (λ c k e. left (start c.before).requires.0 k e c.before.if1.false c.if2.false))  -- returns-3
+pub returns-then-pool-words : goal.returns-then-pool-words
+returns-then-pool-words c k e = used_up c.requires.0 k e c.if-most-count.false c.if-pool-words.true
+
+pub returns : goal.returns
+returns c k e = left c.requires.0 k e c.if-most-count.false c.if-pool-words.false
