@@ -37,6 +37,6 @@ returns c =
     (goes_on in_reach _
     ∙ sym (c.decided-proved.ensures ∙ ap (decided (2 + length a.assumed.now) 0) (c.refutes-verdict.ensures
     ∙ ap (λ A. proves A (map neg_ℤ a.assumed.now) a.hints.now)
-    (allows_all c.all_clauses-scope.ensures (readable c.requires.0) c.requires.0.core.listed))))
+    (allows_all (search rules) (readable c.requires.0) c.requires.0.core.listed))))
     refl
 

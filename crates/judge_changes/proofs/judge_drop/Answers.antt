@@ -37,7 +37,7 @@ returns c =
     decides _ _ c.judged_by.ensures
     (goes_on (met (has_it f row) _) _
     ∙ sym (c.decided-proved.ensures ∙ ap (decided 2 0) (c.proves-verdict.ensures
-    ∙ ap₂ (λ A d. proves A d c.args.hints.now) (allows_others _ c.irredundant_but-scope.ensures (readable f))
+    ∙ ap₂ (λ A d. proves A d c.args.hints.now) (allows_others _ (search rules) (readable f))
     (lits_are f row c.clause_of-c.ensures))))
     row
 

@@ -57,6 +57,6 @@ returns c =
     decides _ 0 c.judged_by.ensures
     (left ∙ goes_on c.in_default-spare.is _
     ∙ sym (c.decided-proved.ensures ∙ ap (decided (3 + length i.c.now) 0) (c.proves-verdict.ensures
-    ∙ ap (λ A. proves A i.c.now i.hints.now) (allows_all c.all_clauses-scope.ensures (readable c.requires.0) c.requires.0.core.listed))))
+    ∙ ap (λ A. proves A i.c.now i.hints.now) (allows_all (search rules) (readable c.requires.0) c.requires.0.core.listed))))
     refl
 

@@ -27,7 +27,7 @@ decided-check-requires c =
     let end : ℕ = c.in-Go.end in
     let headed : Headed c.args.from c.args.groups.now c.args.at D.id (Go end) = rw (c.in-Go.is, c.id_at-due.ensures) at c.header-head.ensures in
     let those : List ℤ = hints_of c.args.groups.now c.args.at end in
-    let verdict : c.proves_with-verdict.result ≡ proves A (target c.args.c.now W D.lits) those = c.proves_with-verdict.ensures ∙ ap₂ (λ B d. proves B (target c.args.c.now W d) those) (allows_others c.args.id c.irredundant_but-scope.ensures c.requires.0) c.clause_of-lits.ensures in
+    let verdict : c.proves_with-verdict.result ≡ proves A (target c.args.c.now W D.lits) those = c.proves_with-verdict.ensures ∙ ap₂ (λ B d. proves B (target c.args.c.now W d) those) (allows_others c.args.id (search rules) c.requires.0) c.clause_of-lits.ensures in
     let h = headed.ahead in
     (omega (arith, c.requires.4), stopped_within _ _ _ 4096 (omega (arith, few_hints c.args.groups.now c.args.at end, c.requires.4)) verdict)
 
@@ -39,7 +39,7 @@ returns-in-Failed c =
     let end : ℕ = c.in-Go.end in
     let headed : Headed c.args.from c.args.groups.now c.args.at D.id (Go end) = rw (c.in-Go.is, c.id_at-due.ensures) at c.header-head.ensures in
     let those : List ℤ = hints_of c.args.groups.now c.args.at end in
-    let verdict : c.proves_with-verdict.result ≡ proves A (target c.args.c.now W D.lits) those = c.proves_with-verdict.ensures ∙ ap₂ (λ B d. proves B (target c.args.c.now W d) those) (allows_others c.args.id c.irredundant_but-scope.ensures c.requires.0) c.clause_of-lits.ensures in
+    let verdict : c.proves_with-verdict.result ≡ proves A (target c.args.c.now W D.lits) those = c.proves_with-verdict.ensures ∙ ap₂ (λ B d. proves B (target c.args.c.now W d) those) (allows_others c.args.id (search rules) c.requires.0) c.clause_of-lits.ensures in
     let index : ℕ = c.args.from + (c.args.at + 2) in
     let detailed : (r : Check) → r ≡ decided index c.id_at-due.result c.proves_with-verdict.result → r ≡ decided index D.id c.proves_with-verdict.result = λ r e. e ∙ ap (λ i. decided index i c.proves_with-verdict.result) c.id_at-due.ensures in
     unproved _ _ _ _ _ _ _ _ headed _ verdict _ (sym (detailed _ c.decided-check.ensures) ∙ c.in-Failed.is)
@@ -52,7 +52,7 @@ returns c =
     let end : ℕ = c.in-Go.end in
     let headed : Headed c.args.from c.args.groups.now c.args.at D.id (Go end) = rw (c.in-Go.is, c.id_at-due.ensures) at c.header-head.ensures in
     let those : List ℤ = hints_of c.args.groups.now c.args.at end in
-    let verdict : c.proves_with-verdict.result ≡ proves A (target c.args.c.now W D.lits) those = c.proves_with-verdict.ensures ∙ ap₂ (λ B d. proves B (target c.args.c.now W d) those) (allows_others c.args.id c.irredundant_but-scope.ensures c.requires.0) c.clause_of-lits.ensures in
+    let verdict : c.proves_with-verdict.result ≡ proves A (target c.args.c.now W D.lits) those = c.proves_with-verdict.ensures ∙ ap₂ (λ B d. proves B (target c.args.c.now W d) those) (allows_others c.args.id (search rules) c.requires.0) c.clause_of-lits.ensures in
     let index : ℕ = c.args.from + (c.args.at + 2) in
     let detailed : (r : Check) → r ≡ decided index c.id_at-due.result c.proves_with-verdict.result → r ≡ decided index D.id c.proves_with-verdict.result = λ r e. e ∙ ap (λ i. decided index i c.proves_with-verdict.result) c.id_at-due.ensures in
     proved _ _ _ _ _ _ _ _ headed _ verdict (sym (detailed _ c.decided-check.ensures) ∙ c.in_default-check.is)
