@@ -28,36 +28,38 @@ loop-i-init c =
 
 pub loop-i-preserved-then-b-eq10 : goal.loop-i-preserved-then-b-eq10
 loop-i-preserved-then-b-eq10 c =
+    let Run₀ : Session = session_of c.args.r c.args.frame.now (spelled c.args.t c.args.rows.now c.args.pool.now c.args.stack.now) c.args.out.now c.args.at in
     let part : List ℕ = c.args.part.now in
     let room : c.loop-i.a + 16401 ≤ length c.args.out.now = omega (arith, c.if-out-a-lt16401.false, c.loop-i.invariant.0.room, c.loop-i.invariant.0.kept) in
-    let words : Feeding part c.args.from c c.take_words-taken.last.1.1.1.1.0 c.args.out.now c.loop-i.out c.take_words-taken.result.from c.loop-i.a c.take_words-taken.result.reader (spelled c.loop-i.table c.loop-i.rows c.loop-i.pool c.loop-i.stack) c.loop-i.altered = feeding_words c.loop-i.invariant.0 room c.take_words-taken.ensures c.take_words-taken.kept.1.1.1.1.0 in
+    let words : Feeding part c.args.from Run₀ c.take_words-taken.new.frame c.args.out.now c.loop-i.out c.take_words-taken.result.from c.loop-i.a c.take_words-taken.result.reader (spelled c.loop-i.table c.loop-i.rows c.loop-i.pool c.loop-i.stack) c.loop-i.altered = feeding_words c.loop-i.invariant.0 room c.take_words-taken.ensures c.take_words-taken.auto.frame in
     let more : c.take_words-taken.result.from < length part = omega (arith, words.high, c.if-i-part.false) in
     let v = c.loop-i.invariant in
     let k = c.close-closed in
     let told = c.either-altered.ensures in
-    let one = k.ensures.1.1.told_so in (
-      rw (told, one) (feeding_close words room more c.if-b-eq10.taken c.fresh-reader.ensures k.ensures.1.0
-          k.kept.1.1.1.1.1.1.0),
-      tables_more v.1 k.ensures.0 k.ensures.1.1 told,
+    let one = k.ensures.altered.told_so in (
+      rw (told, one) (feeding_close words room more c.if-b-eq10.true c.fresh-reader.ensures k.ensures.closed
+          k.auto.out),
+      tables_more v.1 k.ensures.fit k.ensures.altered told,
       v.2,
-      c.take_words-taken.kept.1.1.1.1.0 ∙ v.3,
-      k.kept.1.1.0 ∙ v.4,
-      k.kept.1.1.1.0 ∙ v.5,
-      k.kept.1.1.1.1.0 ∙ v.6,
+      c.take_words-taken.auto.frame ∙ v.3,
+      k.auto.rows ∙ v.4,
+      k.auto.pool ∙ v.5,
+      k.auto.stack ∙ v.6,
     )
 
 pub loop-i-preserved : goal.loop-i-preserved
 loop-i-preserved c =
+    let Run₀ : Session = session_of c.args.r c.args.frame.now (spelled c.args.t c.args.rows.now c.args.pool.now c.args.stack.now) c.args.out.now c.args.at in
     let part : List ℕ = c.args.part.now in
     let room : c.loop-i.a + 16401 ≤ length c.args.out.now = omega (arith, c.if-out-a-lt16401.false, c.loop-i.invariant.0.room, c.loop-i.invariant.0.kept) in
-    let words : Feeding part c.args.from c c.take_words-taken.last.1.1.1.1.0 c.args.out.now c.loop-i.out c.take_words-taken.result.from c.loop-i.a c.take_words-taken.result.reader (spelled c.loop-i.table c.loop-i.rows c.loop-i.pool c.loop-i.stack) c.loop-i.altered = feeding_words c.loop-i.invariant.0 room c.take_words-taken.ensures c.take_words-taken.kept.1.1.1.1.0 in
+    let words : Feeding part c.args.from Run₀ c.take_words-taken.new.frame c.args.out.now c.loop-i.out c.take_words-taken.result.from c.loop-i.a c.take_words-taken.result.reader (spelled c.loop-i.table c.loop-i.rows c.loop-i.pool c.loop-i.stack) c.loop-i.altered = feeding_words c.loop-i.invariant.0 room c.take_words-taken.ensures c.take_words-taken.auto.frame in
     let more : c.take_words-taken.result.from < length part = omega (arith, words.high, c.if-i-part.false) in
     let v = c.loop-i.invariant in
     let k = c.push_byte-reader in (
-      feeding_push words room more c.if-b-eq10.false k.ensures.0 k.ensures.1 k.auto.1.0,
+      feeding_push words room more c.if-b-eq10.false k.ensures.most k.ensures.moved k.auto.frame,
       v.1,
       v.2,
-      k.auto.1.0 ∙ c.take_words-taken.kept.1.1.1.1.0 ∙ v.3,
+      k.auto.frame ∙ c.take_words-taken.auto.frame ∙ v.3,
       v.4,
       v.5,
       v.6,
@@ -67,31 +69,30 @@ pub returns-after-loop-i-clause-fed : goal.returns-after-loop-i-clause-fed
 returns-after-loop-i-clause-fed c =
     let v = c.loop-i.invariant in
     let f = v.0 in
-    (record { fit = v.1.fit; most = f.most; wide = f.wide }, (fed_end f c.loop-i-test.false, record { told_so = f.told; left = v.1.left }))
+    fed_end f c.loop-i-test.false
 
 pub returns-then-out-a-lt16401-clause-fed : goal.returns-then-out-a-lt16401-clause-fed
 returns-then-out-a-lt16401-clause-fed c =
     let v = c.loop-i.invariant in
-    let f = v.0 in (
-      record { fit = v.1.fit; most = f.most; wide = f.wide },
-      (fed_room f (omega (arith, c.if-out-a-lt16401.true, f.kept)), record { told_so = f.told; left = v.1.left }),
-    )
+    let f = v.0 in fed_room f (omega (arith, c.if-out-a-lt16401.true, f.kept))
 
 pub returns-then-i-part-clause-fed : goal.returns-then-i-part-clause-fed
 returns-then-i-part-clause-fed c =
+    let Run₀ : Session = session_of c.args.r c.args.frame.now (spelled c.args.t c.args.rows.now c.args.pool.now c.args.stack.now) c.args.out.now c.args.at in
     let part : List ℕ = c.args.part.now in
     let room : c.loop-i.a + 16401 ≤ length c.args.out.now = omega (arith, c.if-out-a-lt16401.false, c.loop-i.invariant.0.room, c.loop-i.invariant.0.kept) in
-    let words : Feeding part c.args.from c c.take_words-taken.last.1.1.1.1.0 c.args.out.now c.loop-i.out c.take_words-taken.result.from c.loop-i.a c.take_words-taken.result.reader (spelled c.loop-i.table c.loop-i.rows c.loop-i.pool c.loop-i.stack) c.loop-i.altered = feeding_words c.loop-i.invariant.0 room c.take_words-taken.ensures c.take_words-taken.kept.1.1.1.1.0 in
+    let words : Feeding part c.args.from Run₀ c.take_words-taken.new.frame c.args.out.now c.loop-i.out c.take_words-taken.result.from c.loop-i.a c.take_words-taken.result.reader (spelled c.loop-i.table c.loop-i.rows c.loop-i.pool c.loop-i.stack) c.loop-i.altered = feeding_words c.loop-i.invariant.0 room c.take_words-taken.ensures c.take_words-taken.auto.frame in
     let v = c.loop-i.invariant in
     let f = words in
-    (record { fit = v.1.fit; most = f.most; wide = f.wide }, (fed_end f (omega (arith, c.if-i-part.true)), record { told_so = f.told; left = v.1.left }))
+    fed_end f (omega (arith, c.if-i-part.true))
 
 pub returns-then-i-part-clause-altered : goal.returns-then-i-part-clause-altered
 returns-then-i-part-clause-altered c =
+    let Run₀ : Session = session_of c.args.r c.args.frame.now (spelled c.args.t c.args.rows.now c.args.pool.now c.args.stack.now) c.args.out.now c.args.at in
     let part : List ℕ = c.args.part.now in
     let room : c.loop-i.a + 16401 ≤ length c.args.out.now = omega (arith, c.if-out-a-lt16401.false, c.loop-i.invariant.0.room, c.loop-i.invariant.0.kept) in
-    let words : Feeding part c.args.from c c.take_words-taken.last.1.1.1.1.0 c.args.out.now c.loop-i.out c.take_words-taken.result.from c.loop-i.a c.take_words-taken.result.reader (spelled c.loop-i.table c.loop-i.rows c.loop-i.pool c.loop-i.stack) c.loop-i.altered = feeding_words c.loop-i.invariant.0 room c.take_words-taken.ensures c.take_words-taken.kept.1.1.1.1.0 in
+    let words : Feeding part c.args.from Run₀ c.take_words-taken.new.frame c.args.out.now c.loop-i.out c.take_words-taken.result.from c.loop-i.a c.take_words-taken.result.reader (spelled c.loop-i.table c.loop-i.rows c.loop-i.pool c.loop-i.stack) c.loop-i.altered = feeding_words c.loop-i.invariant.0 room c.take_words-taken.ensures c.take_words-taken.auto.frame in
     let v = c.loop-i.invariant in
     let f = words in
-    (record { fit = v.1.fit; most = f.most; wide = f.wide }, (fed_end f (omega (arith, c.if-i-part.true)), record { told_so = f.told; left = v.1.left }))
+    record { told_so = f.told; left = v.1.left }
 
