@@ -1,5 +1,6 @@
 // A proof fed to the working table as its bytes come: words taken, lines closed, and its end.
 #![tactic(auto)]
+
 ghost use Rattle.std.specs.Prelude.{◌≡◌, cond, List, ℕ, eqb};
 ghost use Rattle.table.specs.Spelled.{spelled};
 ghost use Rattle.lrat.specs.Checking as paper;
