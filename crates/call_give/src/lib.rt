@@ -1,6 +1,7 @@
 // Parts of the input over the lent tables: taken in once a part, fed line by line, and put back where a line was an accepted change; and the end of input. Any
 // bits may be handed in.
 #![tactic(auto)]
+
 ghost use Rattle.std.specs.Prelude.{◌≡◌, ◌&&◌, leb, length};
 ghost use Rattle.rules.specs.Answers.{lent};
 ghost use Rattle.line_read.specs.Parts.{largest_reply};

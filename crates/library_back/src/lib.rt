@@ -1,5 +1,6 @@
 // What goes back over the archive's calls: an answer as its two numbers, the parts of the pool, what is read, what a text came to.
 #![tactic(auto)]
+
 ghost use Rattle.std.specs.Prelude.{◌≡◌, ◌+◌, cond};
 ghost use Rattle.lent_entries.specs.Lent.{Spans};
 ghost use Rattle.dimacs.specs.Reading.{fault_numbers};
