@@ -1,5 +1,6 @@
 // The clauses of a text, added one by one to an empty working table.
 #![tactic(auto)]
+
 ghost use Rattle.dimacs.specs.Reading.{read_text};
 ghost use Rattle.lrat_fill.specs.Filling.{FillAsked, Fills, Lends};
 
