@@ -1,5 +1,6 @@
 // A proof checked whole against the rules of a text, over lent tables of its own: opened empty, and left so whatever the outcome.
 #![tactic(auto)]
+
 ghost use Rattle.std.specs.Prelude.{◌≡◌};
 ghost use Rattle.table.specs.Spelled.{Fit, spelled};
 ghost use Rattle.lrat.specs.Checking as paper;
