@@ -1,16 +1,15 @@
 -- From what filling the tables, feeding the proof and opening promise to what checking does over a table of n entries.
 use mathlib.Core.Path.{◌≡◌, refl, sym, ap, ◌∙◌}
-use mathlib.Core.Bool.{true, false, cond}
-use mathlib.Core.List.{List, []}
-use mathlib.Core.Option.{none, some, some-injective, none-ne-some, some-ne-none}
+use mathlib.Core.Bool.{true, false}
+use mathlib.Core.List.{List}
+use mathlib.Core.Option.{some-injective, none-ne-some, some-ne-none}
 use Prim.Native.Nat.{ℕ, ◌≤◌}
 use native.Mathlib.Omega.{arith}
-use lib.Dec.{eqb}
 use lib.IntN.{ℤ}
 use lib.ListN.{length, replicate}
 use borrow.Author.Tests.{lt-ltb, le-leb}
 use Rattle.rules.specs.Terms.{State, in_range}
-use Rattle.rules.specs.Answers.{◌then◌, need, lent, check_open, opened}
+use Rattle.rules.specs.Answers.{◌then◌, need, lent, check_open}
 use Rattle.rules.specs.declared.Check.TheVariants.{Passed}
 use Rattle.rules.proofs.Lists.{all_nil}
 use Rattle.lit_sets.proofs.Sets.{zeros_empty}
@@ -22,20 +21,17 @@ use Rattle.dimacs.proofs.Bodies.{text_body}
 use Rattle.lent.specs.declared.Carried.{Carried}
 use Rattle.lent_entries.specs.declared.Entry.{Entry}
 use Rattle.lent_open.specs.Opened.{opened_with}
-use Rattle.lent_open.specs.Opened as opening
 use Rattle.lent_open.proofs.Spells.{opened_spells}
 use Rattle.lrat.specs.Checking.{answer, check_proof, opened_for, lrat}
-use Rattle.lrat.specs.Kept.{Keeps}
-use Rattle.lrat.specs.Machine.{Session, line_start, started, run, finish, told}
+use Rattle.lrat.specs.Machine.{Session, started, run, finish, told}
 use Rattle.lrat.specs.declared.LratAnswer.{LratAnswer}
 use Rattle.lrat.specs.declared.ProofReader.{ProofReader}
 use Rattle.lrat.proofs.Runs.{run_is_the_proof}
 use Rattle.lrat.proofs.Whole.{filled_size}
-use Rattle.lrat_feed.specs.Feeding.{start_reader, session_of, Feedable, Feeds}
-use Rattle.lrat_feed.specs.declared.Fed.{Fed}
+use Rattle.lrat_feed.specs.Feeding.{start_reader, session_of, Feedable}
 use Rattle.lrat_fill.specs.Filling.{Fills}
 use Rattle.lrat_fill.specs.declared.FilledText.TheVariants.{Faulty, Full, Working}
-use Rattle.call_lrat.specs.Checks.{opens, called_empty, ChecksLent, Checks}
+use Rattle.call_lrat.specs.Checks.{called_empty, ChecksLent, Checks}
 use Rattle.call_lrat.specs.declared.LratCalled.{LratCalled}
 
 -- ---- the proof

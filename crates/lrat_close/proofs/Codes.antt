@@ -1,7 +1,7 @@
 -- The questions that a line is asked, one by one, and what each answer leaves of its number.
 use mathlib.Core.Path.{◌≡◌, refl, sym, ◌∙◌}
 use mathlib.Core.Bool.{Bool, true, false, not, ◌&&◌}
-use mathlib.Core.List.{List, []}
+use mathlib.Core.List.{List}
 use Prim.Native.Nat.{ℕ, ◌+◌, ◌≤◌, ◌<◌, min}
 use native.Mathlib.Omega.{arith}
 use lib.Dec.{eqb, ltb, leb}
@@ -9,15 +9,14 @@ use lib.IntN.{ℤ}
 use lib.ListN.{length}
 use borrow.Author.Tests.{lt-ltb, le-ltb, le-leb, lt-leb, ltb-true, leb-true, eqb-true}
 use Rattle.rules.specs.Terms.{Literals, State, is_clause, null, everything, room}
-use Rattle.rules.specs.Answers.{◌then◌, need, flaw, unseen, free_entry, free_words}
+use Rattle.rules.specs.Answers.{flaw, unseen}
 use Rattle.rules.specs.declared.Check.{Check}
 use Rattle.rules.specs.declared.Check.TheVariants.{Passed, Failed}
 use Rattle.rules.specs.declared.Fault.{Fault}
-use Rattle.rules.specs.declared.Fault.TheVariants.{NoEntry, NoWords}
 use Rattle.rules.proofs.Lists.{by_cases, and_right, or-false, not-false}
-use Rattle.rules.proofs.Checks.{flaw_clause, clause_passes}
+use Rattle.rules.proofs.Checks.{clause_passes}
 use Rattle.lrat.specs.Checking.{ask, ask_room}
-use Rattle.lrat.specs.Kept.{Keeps, read_with}
+use Rattle.lrat.specs.Kept.{read_with}
 use Rattle.lrat.specs.Machine.{Reading, addition_fault, addition_code, line_code, is_addition, is_last}
 use Rattle.lrat.specs.declared.ProofLine.{ProofLine}
 

@@ -6,15 +6,15 @@ use Prim.Native.Nat.{ℕ, ◌+◌, ◌≤◌, ◌<◌}
 use native.Mathlib.Omega.{arith}
 use lib.Dec.{eqb}
 use lib.IntN.{ℤ}
-use lib.ListN.{length, get_or, take, drop}
+use lib.ListN.{length, get_or, drop}
 use borrow.Author.Tests.{ne_eqb}
-use Rattle.rules.specs.Terms.{Literals, State, in_range}
+use Rattle.rules.specs.Terms.{State, in_range}
 use Rattle.rules.proofs.Lists.{all_nil}
 use Rattle.lit_sets.specs.Words.{set_of}
-use Rattle.table.specs.Spelled.{Row, spelled, Fit}
+use Rattle.table.specs.Spelled.{Row, spelled}
 use Rattle.table.specs.declared.Table.{Table}
 use Rattle.lrat.specs.Checking.{one_more}
-use Rattle.lrat.specs.Kept.{Keeps, read_with}
+use Rattle.lrat.specs.Kept.{Keeps}
 use Rattle.lrat.specs.Machine.{Session, Step, at_start, between, is_word, said, line_start, take_word, end_word, word_taken, line_code, is_last, emptied}
 use Rattle.lrat.specs.Machine.{state_behind, fresh, close_line, move, run, unproved, decided, end_line, finish}
 use Rattle.lrat.specs.declared.ProofReader.{ProofReader}

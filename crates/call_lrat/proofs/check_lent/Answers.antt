@@ -1,15 +1,11 @@
 use mathlib.Core.Path.{◌≡◌, refl, sym, subst, ◌∙◌}
 use mathlib.Core.Bool.{true}
-use native.Mathlib.Omega.{arith}
 use lib.ListN.{length, replicate}
-use borrow.Author.Rules.{rules}
 use Rattle.rules.specs.Answers.{lent}
-use Rattle.rules.proofs.Lists.{not-true, not-false}
 use Rattle.dimacs.specs.Reading.{read_text}
-use Rattle.lent.proofs.Sizes.{lent_most}
 use Rattle.lrat_fill.specs.Filling.{Fills}
 use Rattle.lrat_fill.specs.declared.FilledText.{FilledText}
-use Rattle.call_lrat.proofs.Checking.{out_of_range, faulty_checked, full_checked, proof_checked, working_fits}
+use Rattle.call_lrat.proofs.Checking.{full_checked, proof_checked, working_fits}
 use Rattle.call_lrat.proofs.check_lent.Goals as goal
 
 pub check_filled-answer-requires : goal.check_filled-answer-requires

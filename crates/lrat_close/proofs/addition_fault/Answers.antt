@@ -1,15 +1,14 @@
-use mathlib.Core.Path.{◌≡◌, refl, sym, ◌∙◌}
+use mathlib.Core.Path.{◌≡◌, sym, ◌∙◌}
 use mathlib.Core.Bool.{true}
 use mathlib.Core.List.{List}
-use Prim.Native.Nat.{ℕ, ◌≤◌, ◌<◌}
+use Prim.Native.Nat.{◌≤◌, ◌<◌}
 use native.Mathlib.Omega.{arith}
 use lib.IntN.{ℤ}
 use lib.ListN.{length, take}
 use lib.Seq.{length-take-le}
-use borrow.Author.Rules.{rules}
 use Rattle.rules.specs.Terms.{is_clause}
 use Rattle.rules.proofs.Checks.{flaw_clause}
-use Rattle.lrat_close.proofs.Codes.{not_clause, no_id, large_id, bad_clause, old_id, new_id}
+use Rattle.lrat_close.proofs.Codes.{not_clause, bad_clause, old_id, new_id}
 use Rattle.lrat_close.proofs.addition_fault.Goals as goal
 
 pub returns-in-Failed : goal.returns-in-Failed

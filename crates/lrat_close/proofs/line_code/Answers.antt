@@ -1,6 +1,5 @@
-use mathlib.Core.Path.{◌≡◌, refl}
+use mathlib.Core.Path.{refl}
 use native.Mathlib.Omega.{arith}
-use borrow.Author.Rules.{rules}
 use borrow.Author.Tests.{ne_eqb, lt-leb, le-leb}
 use Rattle.lrat.specs.Machine.{line_code}
 use Rattle.lrat_close.proofs.line_code.Goals as goal

@@ -1,5 +1,3 @@
-use mathlib.Core.Path.{refl}
-use borrow.Author.Rules.{rules}
 use Rattle.lrat_feed.proofs.Sessions.{line_ended}
 use Rattle.lrat_feed.proofs.close_line.Goals as goal
 

@@ -1,6 +1,4 @@
-use mathlib.Core.Path.{refl, sym, ◌∙◌}
-use borrow.Author.Rules.{rules}
-use Rattle.rules.proofs.Lists.{not-true, not-false}
+use mathlib.Core.Path.{sym, ◌∙◌}
 use Rattle.lrat_feed.proofs.Sessions.{no_word, word_ended}
 use Rattle.lrat_feed.proofs.end_word.Goals as goal
 

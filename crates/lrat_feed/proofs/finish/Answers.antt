@@ -1,4 +1,3 @@
-use borrow.Author.Rules.{rules}
 use Rattle.lrat_feed.proofs.Sessions.{over_already, ends_so, ends_unproved}
 use Rattle.lrat_feed.proofs.finish.Goals as goal
 

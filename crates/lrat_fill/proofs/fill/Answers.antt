@@ -1,8 +1,6 @@
 -- `lrat_fill::fill` meets its contract: the text is judged, and an empty table opened for it (Opening).
 use mathlib.Core.Path.{sym, ◌∙◌}
-use borrow.Author.Rules.{rules}
-use Rattle.dimacs.specs.Reading.{read_text}
-use Rattle.lrat_fill.proofs.Opening.{faulty_fills, sound_asked}
+use Rattle.lrat_fill.proofs.Opening.{sound_asked}
 use Rattle.lrat_fill.proofs.fill.Goals as goal
 
 pub add_all-requires : goal.add_all-requires

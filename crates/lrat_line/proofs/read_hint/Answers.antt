@@ -2,7 +2,7 @@
 use mathlib.Core.Path.{◌≡◌, refl, sym, ◌∙◌, ap, subst}
 use mathlib.Core.Bool.{Bool, true}
 use mathlib.Core.List.{List}
-use Prim.Native.Nat.{ℕ, ◌-◌, ◌<◌}
+use Prim.Native.Nat.{ℕ, ◌<◌}
 use native.Mathlib.Omega.{arith}
 use lib.IntN.{ℤ, pos}
 use lib.ListN.{length, get_or}
@@ -14,13 +14,13 @@ use Rattle.rules.specs.Lists.{all_pass}
 use Rattle.rules.specs.Terms.{Literals, in_range, opposes}
 use Rattle.rules.specs.Propagation.{Looked, clause, also, read, judge}
 use Rattle.rules.proofs.Lists.{all_index}
-use Rattle.lit.proofs.Signed.{back, said, zero_bits, bits_zero, opposite_in, opposite_back}
+use Rattle.lit.proofs.Signed.{back, said, zero_bits, bits_zero, opposite_back}
 use Rattle.lit_sets.specs.Words.{set_of}
 use Rattle.table.specs.Spelled.{Located}
 use Rattle.table.specs.declared.Found.{Found}
 use Rattle.table.specs.declared.Found.TheVariants.{At}
 use Rattle.judge_propagate.specs.Scope.{all_clauses, allowed_of}
-use Rattle.judge_propagate.proofs.Scan.{Scanned, scan_start, scan_false, scan_bad, scan_open, scan_conflict, scan_forced}
+use Rattle.judge_propagate.proofs.Scan.{scan_start, scan_false, scan_bad, scan_open, scan_conflict, scan_forced}
 use Rattle.lrat_line.proofs.Hints.{names_nobody, names_gone, names_clause}
 use Rattle.lrat_line.proofs.read_hint.Goals as goal
 use Rattle.lrat_line.proofs.read_hint.Goals.{then-not-has+else-open-ne0+else-has_opposite, else-not-has, then-open-ne0-via-then-open-ne0, then-open-ne0-via-else-open-ne0+then-has_opposite}

@@ -2,13 +2,11 @@
 use mathlib.Core.Path.{◌≡◌}
 use mathlib.Core.Bool.{false}
 use mathlib.Core.List.{[]}
-use native.Mathlib.Omega.{arith}
-use borrow.Author.Rules.{rules}
 use Rattle.rules.specs.Terms.{has}
 use Rattle.table.specs.Spelled.{clauses, held_rows}
 use Rattle.judge_checks.specs.Located.{RowOf}
 use Rattle.judge_checks.proofs.Located.{found, missing}
-use Rattle.lrat_line.proofs.Deletions.{not_an_id, not_held, forgotten, dropped}
+use Rattle.lrat_line.proofs.Deletions.{forgotten, dropped}
 use Rattle.lrat_line.proofs.take_deleted.Goals as goal
 
 pub returns-in-At : goal.returns-in-At

@@ -1,15 +1,6 @@
 -- Each return is one law of Hints, by what reading the hint came to.
-use mathlib.Core.Path.{◌≡◌, sym, subst}
-use borrow.Author.Rules.{rules}
-use Rattle.rules.specs.Terms.{Literals}
-use Rattle.rules.specs.Propagation.{judge}
-use Rattle.lit_sets.specs.Words.{set_of}
-use Rattle.table.specs.Spelled.{held_rows}
-use Rattle.table.proofs.Readers.{readable, count_rows}
-use Rattle.judge_propagate.specs.Scope.{all_clauses, allowed_of}
-use Rattle.lrat_line.specs.Lines.{HintRead}
-use Rattle.lrat_line.specs.declared.Looked.{Looked}
-use Rattle.lrat_line.proofs.Hints.{hint_unread, hint_past, hint_conflict, hint_forced, hint_bad}
+use Rattle.table.proofs.Readers.{readable}
+use Rattle.lrat_line.proofs.Hints.{hint_conflict, hint_forced, hint_bad}
 use Rattle.lrat_line.proofs.take_hint.Goals as goal
 
 pub read_hint-looked-requires : goal.read_hint-looked-requires

@@ -1,5 +1,4 @@
 -- Each return is one law of Words, by the phase.
-use borrow.Author.Rules.{rules}
 use Rattle.lrat_line.proofs.Words.{number_id, number_literal, number_hint, number_deleted, number_misplaced}
 use Rattle.lrat_line.proofs.take_number.Goals as goal
 

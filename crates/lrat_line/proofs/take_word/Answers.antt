@@ -1,5 +1,4 @@
 -- Each return is one law of Words, by what the word is.
-use borrow.Author.Rules.{rules}
 use Rattle.lrat_line.proofs.Words.{word_number, word_d, word_misplaced, word_other}
 use Rattle.lrat_line.proofs.take_word.Goals as goal
 
