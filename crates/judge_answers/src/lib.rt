@@ -1,5 +1,6 @@
 // What SAT and UNSAT, the frames with assumptions, ask of the working table, in document 01's order: a judgment each. Everything is lent by &.
 #![tactic(auto)]
+
 ghost use Rattle.std.specs.Prelude.{◌≡◌, true, ◌≤◌, length};
 ghost use Rattle.rules.specs.Lists.{all_pass};
 ghost use Rattle.rules.specs.Terms.{in_range};

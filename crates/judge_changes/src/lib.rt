@@ -1,6 +1,7 @@
 // What ADD, LEARN, FORGET, PROMOTE, DROP and RESTORE ask of the working table, in document 01's order: a judgment each. Everything is lent by &, so that a
 // refusal cannot write.
 #![tactic(auto)]
+
 ghost use Rattle.std.specs.Prelude.{◌≤◌, length};
 ghost use Rattle.rules.specs.Frames.{ADD, DROP, FORGET, LEARN, PROMOTE, RESTORE};
 ghost use Rattle.table.specs.Spelled.{Fit};

@@ -1,5 +1,6 @@
 // What a judgment is, and the single checks that the judgments are made of, each with what the paper says of it. Everything is lent by &.
 #![tactic(auto)]
+
 ghost use Rattle.std.specs.Prelude.{◌≡◌, ◌≤◌, ltb, length};
 ghost use Rattle.rules.specs.Answers.{◌then◌, need, unseen, free_entry, free_words};
 ghost use Rattle.rules.specs.Answers as paper;

@@ -1,5 +1,6 @@
 // WEAKEN's groups of hints: each other irredundant clause that the witness may break needs one. Everything is lent by &, so that a refusal cannot write.
 #![tactic(auto)]
+
 ghost use Rattle.std.specs.Prelude.{◌≡◌, true, ◌+◌, ◌≤◌, ◌<◌, length};
 ghost use Rattle.rules.specs.Lists.{all_pass, only};
 ghost use Rattle.rules.specs.Terms.{in_range};

@@ -1,5 +1,6 @@
 // WEAKEN's judgment: the witness, the clause, the room, then the groups. Everything is lent by &, so that a refusal cannot write.
 #![tactic(auto)]
+
 ghost use Rattle.std.specs.Prelude.{◌+◌, ◌≤◌, length};
 ghost use Rattle.rules.specs.Frames.{WEAKEN};
 ghost use Rattle.table.specs.Spelled.{Fit};

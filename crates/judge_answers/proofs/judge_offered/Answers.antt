@@ -28,4 +28,3 @@ returns c =
     let hold : assumed_true (assigned c.args.offered.now) 2 c.args.assumed.now ≡ Passed = sym c.assumed_true-wrong.ensures ∙ c.in_default.is in
     c.satisfied.ensures ∙ sym (goes_on hold _
     ∙ goes_on (sym c.cleanly-clean.ensures ∙ c.in_default-clean.is) _)
-

@@ -54,4 +54,3 @@ returns c =
     let judged : check state (SAT c.args.assumed.now c.args.vs.now) ≡ c.judge_offered-check.result = goes_on in_reach _ ∙ goes_on rising _ ∙ sym (c.judge_offered-check.ensures ∙ ap (λ α. check_offered state α c.args.assumed.now) c.offer-offered.ensures) in
     let q = c.passed.ensures in
     (passes q (judged ∙ c.in_default-check.is) refl, rw q c.offer-offered.ensures)
-

@@ -39,4 +39,3 @@ returns c =
     ∙ ap (λ A. proves A (map neg_ℤ a.assumed.now) a.hints.now)
     (allows_all (search rules) (readable c.requires.0) c.requires.0.core.listed))))
     refl
-

@@ -38,4 +38,3 @@ returns c =
     let sound : (flaw c.args.t.vars unseen 2 c.args.c.now then need (ltb c.args.t.highest c.args.id) (Id c.args.id)) ≡ Passed = sym c.new_clause-sound.ensures ∙ c.in_default.is in
     let clean = goes_on (sym c.cleanly-clean.ensures ∙ c.in_default-clean.is) _ in
     decides _ 0 c.judged_by.ensures (in_two _ _ _ ∙ goes_on sound _ ∙ clean ∙ sym c.free-spare.ensures) refl
-

@@ -40,4 +40,3 @@ returns c =
     ∙ ap₂ (λ A d. proves A d c.args.hints.now) (allows_others _ (search rules) (readable f))
     (lits_are f row c.clause_of-c.ensures))))
     row
-

@@ -18,4 +18,3 @@ returns c =
     let row = found _ _ _ _ _ c.in-At.is c.locate.ensures in
     let q = met (has_it c.requires row) _ in
     (passes c.passed.ensures q row, passes c.passed.ensures q row)
-

@@ -59,4 +59,3 @@ returns c =
     ∙ sym (c.decided-proved.ensures ∙ ap (decided (3 + length i.c.now) 0) (c.proves-verdict.ensures
     ∙ ap (λ A. proves A i.c.now i.hints.now) (allows_all (search rules) (readable c.requires.0) c.requires.0.core.listed))))
     refl
-

@@ -53,4 +53,3 @@ returns c =
     (ap (above (spelled i.t i.rows.now i.pool.now i.stack.now).stack) (sym p.ensures.1) ∙ above_is f p.result p.ensures.0)
     ∙ sym c.cleanly-clean.ensures)
     row
-

@@ -30,8 +30,7 @@ pub returns-then-most-count : goal.returns-then-most-count
 returns-then-most-count c = sym (stops (full c.requires.0 c.if-most-count.true) _)
 
 pub returns-then-pool-words : goal.returns-then-pool-words
-returns-then-pool-words c = sym (not_full c.requires.0 c.if-most-count.false _ ∙ unmet (lt-leb _ _ c.if-pool-words.true) _)
+returns-then-pool-words c = sym (not_full c.requires.0 (search rules) _ ∙ unmet (lt-leb _ _ c.if-pool-words.true) _)
 
 pub returns : goal.returns
 returns c = sym (not_full c.requires.0 c.if-most-count.false _ ∙ met (le-leb _ _ c.if-pool-words.false) _)
-

@@ -16,4 +16,3 @@ returns c =
     let k : ℕ = c.in-At.k in
     let located : Located (held_rows c.args.t c.args.rows.now) c.args.id (At k) = subst (λ r. Located (held_rows c.args.t c.args.rows.now) c.args.id r) c.in-At.is c.find.ensures in
     elsewhere c.args.t _ c.requires.0 _ _ located c.requires.1 _ (λ q. c.if-place_at-place.false (c.place_at.ensures ∙ q))
-

@@ -18,4 +18,3 @@ pub returns : goal.returns
 returns c =
     let unflawed : let a = c.args in flaw a.t.vars unseen a.at a.c.now ≡ Passed = sym c.flaw-flaw.ensures ∙ c.in_default.is in
     sym (goes_on unflawed _ ∙ met (lt-ltb _ _ c.if-id-t.false) _)
-

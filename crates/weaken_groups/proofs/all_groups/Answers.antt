@@ -31,19 +31,19 @@ pub loop-d-preserved : goal.loop-d-preserved
 loop-d-preserved c =
     let below : c.loop-d.d < length c.args.rows.now = search rules in
     elim c.if-needs_group.branch [
-      then-needs_group+in-Go w ↦
-        let q = judged _ _ _ _ _ _ _ _ _ _ _ c.loop-d.invariant.2 below (sym c.needs_group.ensures ∙ w.if-needs_group.true) _ w.group.ensures in
-        let a = w.group.ensures.ahead in
-        (search rules, rw w.at-is (rw w.in-Go.is at a).1, rw w.at-is (rw w.in-Go.is at q))
-    | else-needs_group w ↦ (
+      | then-needs_group+in-Go w ↦
+          let q = judged _ _ _ _ _ _ _ _ _ _ _ c.loop-d.invariant.2 below (sym c.needs_group.ensures ∙ w.if-needs_group.true) _ w.group.ensures in
+          let a = w.group.ensures.ahead in
+          (search rules, rw w.at-is (rw w.in-Go.is at a).1, rw w.at-is (rw w.in-Go.is at q))
+      | else-needs_group w ↦ (
         search rules,
         rw w.at-is c.loop-d.invariant.1,
         rw w.at-is (passed _ _ _ _ _ _ _ _ _ _ _ c.loop-d.invariant.2 below (sym c.needs_group.ensures ∙ w.if-needs_group.false)),
-      ) ]
+      )
+    ]
 
 pub returns-then-at-groups : goal.returns-then-at-groups
 returns-then-at-groups c = words_left _ _ _ _ _ _ _ _ _ _ _ c.loop-d.invariant.2 c.loop-d-test.false c.if-at-groups.true
 
 pub returns : goal.returns
 returns c = all_judged _ _ _ _ _ _ _ _ _ _ _ c.loop-d.invariant.2 c.loop-d-test.false c.if-at-groups.false
-

@@ -22,4 +22,3 @@ invariant-loop-d l = let A = among (others l.id l.pool l.rows) in
 
 abbrev pub decreases-loop-d : goal.decreases-loop-d
 decreases-loop-d l = length l.rows - l.d
-

@@ -56,4 +56,3 @@ returns c =
     let index : ℕ = c.args.from + (c.args.at + 2) in
     let detailed : (r : Check) → r ≡ decided index c.id_at-due.result c.proves_with-verdict.result → r ≡ decided index D.id c.proves_with-verdict.result = λ r e. e ∙ ap (λ i. decided index i c.proves_with-verdict.result) c.id_at-due.ensures in
     proved _ _ _ _ _ _ _ _ headed _ verdict (sym (detailed _ c.decided-check.ensures) ∙ c.in_default-check.is)
-

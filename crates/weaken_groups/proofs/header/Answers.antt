@@ -67,4 +67,3 @@ returns c =
     let natural : is_natural k ≡ true = sign_is ∙ c.if-not-is_not_negative.false in
     let counts : c.number-count.result ≡ number k = said number {l = k} (record { sfits = c.k-1.given }) c.number-count.ensures.0 in
     rw counts (header_read _ _ _ _ inside right further natural (rw counts at c.if-n-hints.false))
-

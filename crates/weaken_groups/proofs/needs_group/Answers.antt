@@ -29,4 +29,3 @@ returns c =
     let other : id_of r ≡ c.args.id → ⊥ = λ q. c.if-id_at-id.false (c.id_at.ensures ∙ q) in
     ap not c.shares.ensures ∙ by_shared _ _ _ _ irredundant other _ c.clause_of-lits.ensures
     (sym c.opposed.ensures ∙ c.if-not-opposed.false)
-

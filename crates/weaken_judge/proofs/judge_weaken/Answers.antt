@@ -76,7 +76,7 @@ returns-then-pool-words c =
     let later : Check = free_words here (length c.args.witness.now) then groups_of (fetch here.irredundant c.args.id).lits (holds c.args.witness.now) in
     let left : check here (WEAKEN c.args.id c.args.witness.now c.args.groups.now) ≡ (need c.shares-shared.result NoWitness then later) = goes_on unflawed _ ∙ goes_on (met (has_it c.requires.0 row) _) _ ∙ ap (λ b. need b NoWitness then later) (sym (c.shares-shared.ensures ∙ ap₂ any_passes c.mark-marks.ensures same_lits)) in
     refuses c.failed-then-pool-words.ensures
-    (left ∙ goes_on (met (c.if-not-shared.false) _) _
+    (left ∙ goes_on (met (search rules) _) _
     ∙ stops (free_words_is c.requires.0 _ ∙ unmet (lt-leb _ _ c.if-pool-words.true) _) _)
 
 pub all_groups-grouped-requires : goal.all_groups-grouped-requires
@@ -101,4 +101,3 @@ returns c =
     ∙ goes_on (free_words_is c.requires.0 _ ∙ met (le-leb _ _ c.if-pool-words.false) _) _
     ∙ sym (c.all_groups-grouped.ensures ∙ ap₂ groups_of same_lits c.mark-marks.ensures))
     row
-
