@@ -1,6 +1,7 @@
 // A proof checked in parts over lent tables of its own, so that one of any length needs a fixed amount of memory: opened with the rules of a text, given part
 // by part, and left empty once its answer is known. Any bits may be handed in.
 #![tactic(auto)]
+
 ghost use Rattle.std.specs.Prelude.{◌≡◌, true, length};
 ghost use Rattle.rules.specs.Answers.{lent, check_open};
 ghost use Rattle.table.specs.Spelled.{Fit, spelled};
