@@ -41,9 +41,9 @@ module _ {part : List ℕ} {frame₀ : List ℤ} {rows₀ : List Row} {pool₀ :
         {out out' : List ℕ} {at' : ℕ} {told now : Bool}
         → Feedable table' rows' pool' stack' reader' frame'
         → LinesFed part from from' (session_of reader frame (spelled table rows pool stack) out 0)
-            (session_of reader' frame' (spelled table' rows' pool' stack') out' at') out out' at'
+        (session_of reader' frame' (spelled table' rows' pool' stack') out' at') out out' at'
         → Altering (some_alters (spelled table rows pool stack) (closes (line_of reader frame) (slice from from' part))) told
-            table rows pool stack table' rows' pool' stack'
+        table rows pool stack table' rows' pool' stack'
         → now ≡ (altered || told)
         → Going part frame₀ rows₀ pool₀ stack₀ reader₀ table₀ frame' rows' pool' stack' from' reader' table' now
     going_more e fed alters either =
@@ -58,7 +58,7 @@ module _ {part : List ℕ} {frame₀ : List ℤ} {rows₀ : List Row} {pool₀ :
     -- what was fed so far
     pub pumped : (sent : Bool) → (sent ≡ true → length part ≤ from)
         → Pumping part reader₀ frame₀ table₀ rows₀ pool₀ stack₀ (record { taken = from; reader = reader; table = table; altered = altered; sent = sent })
-            frame rows pool stack
+        frame rows pool stack
     pumped sent h = record {
       few = g.high;
       whole = λ e. let z = h e in omega (arith, g.high);

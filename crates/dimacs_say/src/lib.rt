@@ -1,5 +1,6 @@
 // A text's fault on standard error: a line of digits for programs, and one in words for people.
 #![tactic(auto)]
+
 ghost use Rattle.std.specs.Prelude.{◌≤◌, length};
 
 use dimacs::TextFault;
@@ -56,7 +57,10 @@ fn say_words(rt: &HostRuntime, fault: TextFault) {
             rt,
             b"a variable that its clause has already; a clause names a variable once",
         ),
-        TextFault::LongClause(_) => say(rt, b"the 257th literal of a clause; a clause has at most 256"),
+        TextFault::LongClause(_) => say(
+            rt,
+            b"the 257th literal of a clause; a clause has at most 256",
+        ),
         TextFault::VarsOutOfRange(_) => say(rt, b"a variable count outside 1 to 2,048"),
         TextFault::UnclosedClause(_) => say(
             rt,

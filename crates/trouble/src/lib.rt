@@ -1,5 +1,6 @@
 // What a program could not do, on standard error: its words, a colon and the system's reason.
 #![tactic(auto)]
+
 ghost use Rattle.std.specs.Prelude.{◌≤◌, length};
 
 use std::io;

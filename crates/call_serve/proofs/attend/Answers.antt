@@ -8,8 +8,7 @@ loop-turns-init c = (refl, refl, refl, none_read _ c.requires c.fresh-reader.ens
 pub loop-turns-preserved : goal.loop-turns-preserved
 loop-turns-preserved c =
     let v = c.loop-turns.invariant in
-    let kept = c.pump-q.auto in
-    (
+    let kept = c.pump-q.auto in (
       v.0 ∙ sym c.read-got.auto.buf,
       v.1 ∙ sym kept.out,
       v.2 ∙ sym kept.frame,

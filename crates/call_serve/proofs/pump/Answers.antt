@@ -18,8 +18,7 @@ loop-from-smaller c =
 pub loop-from-preserved : goal.loop-from-preserved
 loop-from-preserved c =
     let l = c.loop-from in
-    let e = c.feed-fed.ensures in
-    (
+    let e = c.feed-fed.ensures in (
       going_more l.invariant.0 e.fit e.fed e.altered c.either-altered.ensures,
       c.if-not-sent.false,
       c.feed-fed.auto.out ∙ l.invariant.2,

@@ -21,8 +21,7 @@ loop-read-smaller g c =
 pub loop-read-preserved : goal.loop-read-preserved
 loop-read-preserved g c =
     let l = c.loop-read in
-    let part = take c.count-n.result c.read-got.new.buf in
-    (
+    let part = take c.count-n.result c.read-got.new.buf in (
       l.invariant.0 ∙ sym c.read-got.auto.buf,
       l.invariant.1,
       read_more c.requires.vars_fit.1 l.invariant.2 part c.feed_on-fed.ensures c.if-reader.false,
@@ -39,7 +38,7 @@ returns g c =
       | else-loop-read-test w ↦ told_so small v.2 t.failure w.reader-is (w.ended-is ∙ v.1)
       | then-loop-read-test+in-Err w ↦ told_so small v.2 t.failure w.reader-is (w.ended-is ∙ v.1)
       | then-loop-read-test+in_default+then-reader w ↦
-        let part = take w.count-n.result w.read-got.new.buf in
-        told_so small (read_on small v.2 part w.feed_on-fed.ensures) t.failure w.reader-is
-        (w.ended-is ∙ ap (λ k. eqb k 0) (sym (length-take-le w.count-n.result w.read-got.new.buf w.count-n.ensures)))
+          let part = take w.count-n.result w.read-got.new.buf in
+          told_so small (read_on small v.2 part w.feed_on-fed.ensures) t.failure w.reader-is
+          (w.ended-is ∙ ap (λ k. eqb k 0) (sym (length-take-le w.count-n.result w.read-got.new.buf w.count-n.ensures)))
     ])
