@@ -1,5 +1,6 @@
 // The archive for C and Rust: the public calls with pointers and lengths, an answer as its two numbers.
 #![tactic(auto)]
+
 ghost use Rattle.std.specs.Prelude.{◌+◌};
 ghost use Rattle.lent_entries.specs.Lent.{clause_at, entry_at, witness_at};
 ghost use Rattle.library.specs.Exported.{OpenExported, StepExported, Names, GiveExported, EndExported};

@@ -1,5 +1,6 @@
 // What goes in and back over the archive's calls on proofs.
 #![tactic(auto)]
+
 ghost use Rattle.std.specs.Prelude.{◌≡◌, cond, not, eqb};
 ghost use Rattle.library_proofs.specs.Handed.{handed_part, handed_opening, lrat_numbers, reading_of, state_of};
 
