@@ -7,7 +7,7 @@ use borrow.Author.Rules.{rules}
 use Rattle.lent_lawful.proofs.is_clause.Goals as goal
 
 pub returns-then-c-gt256 : goal.returns-then-c-gt256
-returns-then-c-gt256 c = let a = c.args in sym (clause_long a.vars a.c.now c.if-c-gt256.true)
+returns-then-c-gt256 c = let a = c.args in sym (clause_long a.vars a.c.now (omega (arith, c.if-c-gt256.true)))
 
 pub returns-in-Failed : goal.returns-in-Failed
 returns-in-Failed c =
