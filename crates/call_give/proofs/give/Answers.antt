@@ -1,5 +1,4 @@
 -- From a part on the rows taken in, and the rows put back, to what the call promises.
-use Rattle.std.proofs.Common.{◌≡◌}
 use Rattle.call_give.proofs.Giving.{gives_lent}
 use Rattle.call_give.proofs.give.Goals as goal
 

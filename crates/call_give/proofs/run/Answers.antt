@@ -1,17 +1,14 @@
 -- `call_give::run` meets its contract: each way out cites its law in Running.
-use mathlib.Core.Path.{◌≡◌, sym, ◌∙◌}
 use mathlib.Core.List.{List, ◌++◌}
 use Prim.Native.Nat.{◌≤◌}
 use native.Mathlib.Omega.{arith}
 use lib.ListN.{length, take, drop}
-use lib.Seq.{length-take-le}
 use Rattle.table.specs.Spelled.{Row}
 use Rattle.table.specs.declared.Table.{Table}
 use Rattle.lent_load.specs.Loads.{Loads}
 use Rattle.lent_load.specs.declared.Loaded.TheVariants.{Working}
 use Rattle.lent_load.proofs.Front.{Front, front_loaded}
-use Rattle.call_give.proofs.Running.{unloaded, ran_kept, ran_stored}
-use borrow.Author.Rules.{rules}
+use Rattle.call_give.proofs.Running.{ran_stored}
 use Rattle.call_give.proofs.run.Goals as goal
 
 pub feed-taken-requires : goal.feed-taken-requires

@@ -4,10 +4,8 @@ use mathlib.Core.Bool.{true}
 use Prim.Native.Nat.{◌≤◌}
 use native.Mathlib.Omega.{arith}
 use lib.Dec.{leb}
-use lib.ListN.{length, take}
-use lib.Seq.{length-take-le}
-use borrow.Author.Rules.{rules}
-use borrow.Author.Tests.{le-leb, lt-leb}
+use lib.ListN.{take}
+use borrow.Author.Tests.{le-leb}
 use Rattle.lit_clause.proofs.Faults.{ranged_in}
 use Rattle.call_lrat_parts.proofs.Reading.{not_ranged}
 use Rattle.call_lrat_parts.proofs.is_reading.Goals as goal

@@ -1,16 +1,12 @@
 -- `call_lrat_parts::open_lent` meets its contract: each way out cites its law in Opening.
 use mathlib.Core.Path.{◌≡◌, sym, subst, ◌∙◌}
 use mathlib.Core.Bool.{true}
-use Prim.Native.Nat.{◌≤◌}
-use native.Mathlib.Omega.{arith}
 use lib.ListN.{length, replicate}
-use borrow.Author.Rules.{rules}
 use Rattle.rules.specs.Answers.{lent}
 use Rattle.dimacs.specs.Reading.{read_text}
-use Rattle.lent.proofs.Sizes.{lent_most}
 use Rattle.lrat_fill.specs.Filling.{Fills}
 use Rattle.lrat_fill.specs.declared.FilledText.{FilledText}
-use Rattle.call_lrat_parts.proofs.Opening.{unlent, faulted, no_room_left, held_fits, held}
+use Rattle.call_lrat_parts.proofs.Opening.{no_room_left, held_fits, held}
 use Rattle.call_lrat_parts.proofs.open_lent.Goals as goal
 
 pub squeeze-whole-requires : goal.squeeze-whole-requires

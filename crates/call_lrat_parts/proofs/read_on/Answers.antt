@@ -1,8 +1,5 @@
 -- `call_lrat_parts::read_on` meets its contract.
-use mathlib.Core.Path.{◌≡◌}
-use lib.ListN.{length}
-use borrow.Author.Rules.{rules}
-use Rattle.call_lrat_parts.proofs.Running.{read_asks, read_further}
+use Rattle.call_lrat_parts.proofs.Running.{read_further}
 use Rattle.call_lrat_parts.proofs.read_on.Goals as goal
 
 pub returns : goal.returns

@@ -1,18 +1,15 @@
 -- `call_lrat_parts::run_part` meets its contract: each way out cites its law in Running.
-use mathlib.Core.Path.{sym, ◌∙◌}
 use mathlib.Core.List.{List, ◌++◌}
 use Prim.Native.Nat.{◌≤◌}
 use native.Mathlib.Omega.{arith}
 use lib.ListN.{length, take, drop}
-use lib.Seq.{length-take-le}
-use borrow.Author.Rules.{rules}
 use Rattle.table.specs.Spelled.{Row}
 use Rattle.table.specs.declared.Table.{Table}
 use Rattle.lent.proofs.Sizes.{lent_most}
 use Rattle.lent_load.specs.Loads.{Loads}
 use Rattle.lent_load.specs.declared.Loaded.TheVariants.{Working}
 use Rattle.lent_load.proofs.Front.{Front, front_loaded}
-use Rattle.call_lrat_parts.proofs.Running.{unloaded, ran_again, ran_further}
+use Rattle.call_lrat_parts.proofs.Running.{ran_again, ran_further}
 use Rattle.call_lrat_parts.proofs.run_part.Goals as goal
 
 pub returns-then-reader : goal.returns-then-reader

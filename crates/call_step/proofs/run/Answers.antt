@@ -1,11 +1,9 @@
 -- `call_step::run` meets its contract: each way out cites its law in Running.
-use mathlib.Core.Path.{◌≡◌, subst, ◌∙◌}
-use lib.ListN.{length}
+use mathlib.Core.Path.{◌≡◌, subst}
 use Rattle.lent_load.specs.Loads.{Loads}
 use Rattle.lent_load.specs.declared.Loaded.{Loaded}
 use Rattle.lent_load.specs.declared.Loaded.TheVariants.{Working}
-use Rattle.call_step.proofs.Running.{unloaded, ran_nothing, ran_model, ran_tables}
-use borrow.Author.Rules.{rules}
+use Rattle.call_step.proofs.Running.{ran_nothing, ran_model, ran_tables}
 use Rattle.call_step.proofs.run.Goals as goal
 
 pub returns-in-Nothing : goal.returns-in-Nothing

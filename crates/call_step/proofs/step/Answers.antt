@@ -1,5 +1,4 @@
 -- From a frame on the rows taken in, and the rows put back, to what the call promises.
-use Rattle.std.proofs.Common.{◌≡◌}
 use Rattle.call_step.proofs.Stepped.{steps_lent}
 use Rattle.call_step.proofs.step.Goals as goal
 

@@ -1,15 +1,14 @@
 -- `lent_lawful::are_right` meets its contract. The loop's invariant: those before k are right.
-use mathlib.Core.Path.{◌≡◌, refl, sym, ◌∙◌, ap}
+use mathlib.Core.Path.{◌≡◌, sym, ◌∙◌, ap}
 use mathlib.Core.Bool.{Bool, ◌&&◌}
 use mathlib.Core.List.{[]}
-use Prim.Native.Nat.{◌+◌, ◌-◌, ◌≤◌}
+use Prim.Native.Nat.{◌+◌}
 use native.Mathlib.Omega.{arith}
-use lib.ListN.{length, drop}
+use lib.ListN.{drop}
 use Rattle.rules.specs.Lists.{all_pass}
 use Rattle.rules.proofs.Lists.{all_on, all_past}
 use Rattle.table.specs.Spelled.{Row}
 use Rattle.lent_lawful.specs.Rights.{right}
-use borrow.Author.Rules.{rules}
 use Rattle.lent_lawful.proofs.are_right.Goals as goal
 
 pub returns-then-not-is_right : goal.returns-then-not-is_right

@@ -1,16 +1,9 @@
 -- `lent_lawful::are_right` meets its contract. The loop's invariant: those before k are right.
-use mathlib.Core.Path.{◌≡◌, refl, sym, ◌∙◌, ap}
-use mathlib.Core.Bool.{Bool, ◌&&◌}
-use mathlib.Core.List.{[]}
-use Prim.Native.Nat.{◌+◌, ◌-◌, ◌≤◌}
-use native.Mathlib.Omega.{arith}
+use mathlib.Core.Path.{◌≡◌}
+use Prim.Native.Nat.{◌-◌, ◌≤◌}
 use lib.ListN.{length, drop}
 use Rattle.rules.specs.Lists.{all_pass}
-use Rattle.rules.proofs.Lists.{all_on, all_past}
-use Rattle.table.specs.Spelled.{Row}
 use Rattle.lent_lawful.specs.Rights.{right}
-use borrow.Author.Rules.{rules}
-use borrow.Author.Tests.{not-true, not-false}
 use Rattle.lent_lawful.proofs.are_right.Given as goal
 
 abbrev pub invariant-loop-k : goal.invariant-loop-k

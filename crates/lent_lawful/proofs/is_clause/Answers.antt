@@ -3,7 +3,6 @@ use mathlib.Core.Path.{sym, ◌∙◌}
 use native.Mathlib.Omega.{arith}
 use Rattle.rules.proofs.Checks.{flaw_clause}
 use Rattle.lent_lawful.proofs.Rights.{clause_long, clause_flawed}
-use borrow.Author.Rules.{rules}
 use Rattle.lent_lawful.proofs.is_clause.Goals as goal
 
 pub returns-then-c-gt256 : goal.returns-then-c-gt256

@@ -6,7 +6,6 @@ use native.Mathlib.Omega.{arith}
 use lib.Dec.{eqb}
 use lib.IntN.{ℤ}
 use lib.ListN.{length}
-use borrow.Author.Rules.{rules}
 use Rattle.rules.specs.Terms.{Held, is_clause, is_witness}
 use Rattle.table.specs.Spelled.{Row, row_at, place_of, held}
 use Rattle.lent_lawful.proofs.Rights.{lawful_no_clause, lawful_plain, lawful_record, lawful_nowhere}

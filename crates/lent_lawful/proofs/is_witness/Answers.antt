@@ -1,10 +1,8 @@
 -- `lent_lawful::is_witness` meets its contract.
 use mathlib.Core.Path.{sym, ◌∙◌, ap}
 use Rattle.rules.specs.Lists.{any_passes}
-use Rattle.rules.specs.Terms.{is_clause}
 use Rattle.table.proofs.Readers.{clause_ranged}
 use Rattle.lent_lawful.proofs.Rights.{witness_no_clause, witness_shares}
-use borrow.Author.Rules.{rules}
 use Rattle.lent_lawful.proofs.is_witness.Goals as goal
 
 pub returns-then-not-is_clause : goal.returns-then-not-is_clause

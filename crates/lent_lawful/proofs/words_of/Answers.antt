@@ -1,13 +1,9 @@
 -- `lent_lawful::words_of` meets its contract. The loop's invariant: the sum of those before k, which are at most 8,192 each.
-use mathlib.Core.Path.{◌≡◌}
 use mathlib.Core.List.{List, []}
-use Prim.Native.Nat.{ℕ, ◌+◌, ◌*◌, ◌-◌, ◌≤◌}
+use Prim.Native.Nat.{ℕ, ◌≤◌}
 use native.Mathlib.Omega.{arith}
-use lib.ListN.{length, drop}
-use Rattle.table.specs.Facts.{total}
 use Rattle.table.specs.Spelled.{Row, row_at, size}
-use Rattle.table.proofs.Facts.{all_index, total_on, total_past}
-use borrow.Author.Rules.{rules}
+use Rattle.table.proofs.Facts.{all_index, total_on}
 use Rattle.lent_lawful.proofs.words_of.Goals as goal
 
 pub loop-k-preserved : goal.loop-k-preserved

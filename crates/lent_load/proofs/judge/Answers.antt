@@ -1,15 +1,11 @@
 -- `lent_load::judge` meets its contract: a test that fails says that there is no state, and where all pass the working table fits.
 use mathlib.Core.Path.{◌≡◌, sym, ◌∙◌, ap}
-use mathlib.Core.List.{List}
 use Prim.Native.Nat.{ℕ, ◌≤◌}
 use native.Mathlib.Omega.{arith}
-use lib.IntN.{ℤ}
 use lib.ListN.{length, take}
-use lib.Seq.{length-take-le}
-use borrow.Author.Rules.{rules}
 use Rattle.rules.specs.Lists.{all_pass}
 use Rattle.table.specs.Facts.{All}
-use Rattle.table.specs.Spelled.{Row, Inside, clauses}
+use Rattle.table.specs.Spelled.{Inside, clauses}
 use Rattle.table.proofs.Facts.{all_more}
 use Rattle.lent.specs.State.{lists}
 use Rattle.lent.proofs.Tests.{all_test}

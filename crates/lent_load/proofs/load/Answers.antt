@@ -1,17 +1,15 @@
 -- `lent_load::load` meets its contract: of the rows lent, those held are loaded.
-use mathlib.Core.Path.{◌≡◌, sym, ◌∙◌, subst}
+use mathlib.Core.Path.{◌≡◌, subst}
 use mathlib.Core.List.{List}
 use Prim.Native.Nat.{◌≤◌}
 use native.Mathlib.Omega.{arith}
 use lib.IntN.{ℤ}
 use lib.ListN.{length, take}
-use lib.Seq.{length-take-le}
 use Rattle.table.specs.Spelled.{Row}
 use Rattle.lent.specs.declared.Carried.{Carried}
 use Rattle.lent_load.specs.Loads.{Loads}
 use Rattle.lent_load.specs.declared.Loaded.{Loaded}
 use Rattle.lent_load.proofs.Held.{too_many, stack_past, front_none, front_loads}
-use borrow.Author.Rules.{rules}
 use Rattle.lent_load.proofs.load.Goals as goal
 
 pub returns-then-rows-count : goal.returns-then-rows-count

@@ -2,7 +2,6 @@
 use native.Mathlib.Omega.{arith}
 use Rattle.lent_order.proofs.Alike.{arranged_count, arranged_tidy}
 use Rattle.lent_load.proofs.Held.{arranged_twice, arranged_loads}
-use borrow.Author.Rules.{rules}
 use Rattle.lent_load.proofs.load_held.Goals as goal
 
 pub returns-then-not-arrange : goal.returns-then-not-arrange
