@@ -1,5 +1,6 @@
 // Lines fed to the checker: read, and each one closed, as the bytes come.
 #![tactic(auto)]
+
 ghost use Rattle.std.specs.Prelude.{◌≤◌, length};
 ghost use Rattle.std.proofs.Math.Seq.{slice};
 ghost use Rattle.line_read.specs.Machine.{line_of, session_of};

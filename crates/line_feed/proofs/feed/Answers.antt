@@ -30,7 +30,7 @@ pub loop-i-preserved-then-b-eq10 : goal.loop-i-preserved-then-b-eq10
 loop-i-preserved-then-b-eq10 c =
     let Run₀ : Session = session_of c.args.r c.args.frame.now (spelled c.args.t c.args.rows.now c.args.pool.now c.args.stack.now) c.args.out.now c.args.at in
     let part : List ℕ = c.args.part.now in
-    let room : c.loop-i.a + 16401 ≤ length c.args.out.now = omega (arith, c.if-out-a-lt16401.false, c.loop-i.invariant.0.room, c.loop-i.invariant.0.kept) in
+    let room : c.loop-i.a + 16401 ≤ length c.args.out.now = omega (arith, c.loop-i.invariant.0.room, c.loop-i.invariant.0.kept) in
     let words : Feeding part c.args.from Run₀ c.take_words-taken.new.frame c.args.out.now c.loop-i.out c.take_words-taken.result.from c.loop-i.a c.take_words-taken.result.reader (spelled c.loop-i.table c.loop-i.rows c.loop-i.pool c.loop-i.stack) c.loop-i.altered = feeding_words c.loop-i.invariant.0 room c.take_words-taken.ensures c.take_words-taken.auto.frame in
     let more : c.take_words-taken.result.from < length part = omega (arith, words.high, c.if-i-part.false) in
     let v = c.loop-i.invariant in
@@ -51,7 +51,7 @@ pub loop-i-preserved : goal.loop-i-preserved
 loop-i-preserved c =
     let Run₀ : Session = session_of c.args.r c.args.frame.now (spelled c.args.t c.args.rows.now c.args.pool.now c.args.stack.now) c.args.out.now c.args.at in
     let part : List ℕ = c.args.part.now in
-    let room : c.loop-i.a + 16401 ≤ length c.args.out.now = omega (arith, c.if-out-a-lt16401.false, c.loop-i.invariant.0.room, c.loop-i.invariant.0.kept) in
+    let room : c.loop-i.a + 16401 ≤ length c.args.out.now = omega (arith, c.loop-i.invariant.0.room, c.loop-i.invariant.0.kept) in
     let words : Feeding part c.args.from Run₀ c.take_words-taken.new.frame c.args.out.now c.loop-i.out c.take_words-taken.result.from c.loop-i.a c.take_words-taken.result.reader (spelled c.loop-i.table c.loop-i.rows c.loop-i.pool c.loop-i.stack) c.loop-i.altered = feeding_words c.loop-i.invariant.0 room c.take_words-taken.ensures c.take_words-taken.auto.frame in
     let more : c.take_words-taken.result.from < length part = omega (arith, words.high, c.if-i-part.false) in
     let v = c.loop-i.invariant in
@@ -74,13 +74,13 @@ returns-after-loop-i-clause-fed c =
 pub returns-then-out-a-lt16401-clause-fed : goal.returns-then-out-a-lt16401-clause-fed
 returns-then-out-a-lt16401-clause-fed c =
     let v = c.loop-i.invariant in
-    let f = v.0 in fed_room f (omega (arith, c.if-out-a-lt16401.true, f.kept))
+    let f = v.0 in fed_room f (omega (arith, f.kept))
 
 pub returns-then-i-part-clause-fed : goal.returns-then-i-part-clause-fed
 returns-then-i-part-clause-fed c =
     let Run₀ : Session = session_of c.args.r c.args.frame.now (spelled c.args.t c.args.rows.now c.args.pool.now c.args.stack.now) c.args.out.now c.args.at in
     let part : List ℕ = c.args.part.now in
-    let room : c.loop-i.a + 16401 ≤ length c.args.out.now = omega (arith, c.if-out-a-lt16401.false, c.loop-i.invariant.0.room, c.loop-i.invariant.0.kept) in
+    let room : c.loop-i.a + 16401 ≤ length c.args.out.now = omega (arith, c.loop-i.invariant.0.room, c.loop-i.invariant.0.kept) in
     let words : Feeding part c.args.from Run₀ c.take_words-taken.new.frame c.args.out.now c.loop-i.out c.take_words-taken.result.from c.loop-i.a c.take_words-taken.result.reader (spelled c.loop-i.table c.loop-i.rows c.loop-i.pool c.loop-i.stack) c.loop-i.altered = feeding_words c.loop-i.invariant.0 room c.take_words-taken.ensures c.take_words-taken.auto.frame in
     let v = c.loop-i.invariant in
     let f = words in
@@ -90,9 +90,8 @@ pub returns-then-i-part-clause-altered : goal.returns-then-i-part-clause-altered
 returns-then-i-part-clause-altered c =
     let Run₀ : Session = session_of c.args.r c.args.frame.now (spelled c.args.t c.args.rows.now c.args.pool.now c.args.stack.now) c.args.out.now c.args.at in
     let part : List ℕ = c.args.part.now in
-    let room : c.loop-i.a + 16401 ≤ length c.args.out.now = omega (arith, c.if-out-a-lt16401.false, c.loop-i.invariant.0.room, c.loop-i.invariant.0.kept) in
+    let room : c.loop-i.a + 16401 ≤ length c.args.out.now = omega (arith, c.loop-i.invariant.0.room, c.loop-i.invariant.0.kept) in
     let words : Feeding part c.args.from Run₀ c.take_words-taken.new.frame c.args.out.now c.loop-i.out c.take_words-taken.result.from c.loop-i.a c.take_words-taken.result.reader (spelled c.loop-i.table c.loop-i.rows c.loop-i.pool c.loop-i.stack) c.loop-i.altered = feeding_words c.loop-i.invariant.0 room c.take_words-taken.ensures c.take_words-taken.auto.frame in
     let v = c.loop-i.invariant in
     let f = words in
     record { told_so = f.told; left = v.1.left }
-

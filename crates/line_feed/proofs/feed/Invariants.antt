@@ -19,4 +19,3 @@ invariant-loop-i l = Feeding l.part l.from (session_of l.initial.reader l.initia
 
 abbrev pub decreases-loop-i : goal.decreases-loop-i
 decreases-loop-i l = length l.part - l.i
-
