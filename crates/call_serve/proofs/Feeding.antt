@@ -7,7 +7,7 @@ use native.Mathlib.Omega.{arith}
 use lib.IntN.{ℤ}
 use lib.ListN.{length, take}
 use lib.Seq.{slice}
-use Rattle.table.specs.Spelled.{Row, Fit, spelled}
+use Rattle.table.specs.Spelled.{Row, spelled}
 use Rattle.table.specs.declared.Table.{Table}
 use Rattle.line_read.specs.Machine.{line_of, session_of}
 use Rattle.line_read.specs.Parts.{closes, some_alters}

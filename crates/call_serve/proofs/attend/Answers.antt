@@ -1,5 +1,5 @@
 use Rattle.std.proofs.Common.{refl, ◌∙◌, sym}
-use Rattle.call_serve.proofs.Reading.{Read, none_read, read_more, attended}
+use Rattle.call_serve.proofs.Reading.{none_read, read_more, attended}
 use Rattle.call_serve.proofs.attend.Goals as goal
 
 pub loop-turns-init : goal.loop-turns-init

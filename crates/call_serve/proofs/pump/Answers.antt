@@ -1,7 +1,7 @@
-use Rattle.std.proofs.Common.{refl, ◌∙◌, ◌<◌, arith}
+use Rattle.std.proofs.Common.{refl, ◌∙◌, arith}
 use Rattle.rules.proofs.Lists.{true-false}
 use Rattle.call_serve.proofs.Onward.{fed_onward}
-use Rattle.call_serve.proofs.Feeding.{Going, going_none, going_more, pumped}
+use Rattle.call_serve.proofs.Feeding.{going_none, going_more, pumped}
 use Rattle.call_serve.proofs.pump.Goals as goal
 
 pub loop-from-init : goal.loop-from-init

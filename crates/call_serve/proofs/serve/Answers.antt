@@ -1,6 +1,3 @@
-use Rattle.std.proofs.Common.{subst, List}
-use Rattle.table.specs.Spelled.{Row}
-use Rattle.call_serve.specs.Serving.{ServedRows}
 use Rattle.call_serve.proofs.Back.{serves_lent}
 use Rattle.call_serve.proofs.serve.Goals as goal
 

@@ -1,4 +1,4 @@
-use Rattle.std.proofs.Common.{sym, length, ℕ}
+use Rattle.std.proofs.Common.{sym, ℕ}
 use Rattle.std.proofs.lemmas.List.{length-replicate}
 use Rattle.text_input.proofs.text_buffer.Goals as goal
 
