@@ -1,5 +1,6 @@
 // What hints prove of a target: its literals are made false, and propagation does the rest. The two arrays `plus` and `minus` are those of `judge_propagate`.
 #![tactic(auto)]
+
 ghost use Rattle.std.specs.Prelude.{◌≡◌, true, not, map, neg_ℤ};
 ghost use Rattle.rules.specs.Lists.{all_pass, only};
 ghost use Rattle.rules.specs.Terms.{in_range, opposes};

@@ -1,6 +1,7 @@
 // Propagation by hints. The false literals are a set in two arrays: `plus` has the variables of its positive literals, which are false, and `minus` those of
 // its negative literals, which are true.
 #![tactic(auto)]
+
 ghost use Rattle.std.specs.Prelude.{◌≡◌};
 ghost use Rattle.rules.specs.Propagation.{run};
 ghost use Rattle.lit_sets.specs.Words.{set_of};

@@ -1,5 +1,6 @@
 // The loops over what is held: the irredundant clauses under an assignment, and the records from the top of the stack.
 #![tactic(auto)]
+
 ghost use Rattle.std.specs.Prelude.{◌≡◌, true, ◌≤◌, ◌<◌, length, get_or};
 ghost use Rattle.rules.specs.Lists.{all_pass};
 ghost use Rattle.rules.specs.Terms.{in_range};

@@ -1,5 +1,6 @@
 // 0A: a line is closed. It is judged, applied and answered.
 #![tactic(auto)]
+
 ghost use Rattle.std.specs.Prelude.{◌+◌, ◌≤◌, length};
 ghost use Rattle.line_read.specs.Lines as paper;
 ghost use Rattle.line_read.specs.Machine.{line_of};

@@ -1,5 +1,6 @@
 // The line of an answer, as bytes, and what the end of input adds. What is written is defined in `line_read`, its digits in `line_hex`.
 #![tactic(auto)]
+
 ghost use Rattle.std.specs.Prelude.{[], ◌+◌, ◌≤◌, length};
 ghost use Rattle.rules.specs.Outcomes.{trues};
 ghost use Rattle.lit_sets.specs.Words.{assigned};

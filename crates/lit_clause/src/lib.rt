@@ -1,5 +1,6 @@
 // Clauses and witnesses as lists of words: the checks that ask for no table, and what a clause is under a set of literals.
 #![tactic(auto)]
+
 ghost use Rattle.std.specs.Prelude.{◌≡◌, true, ◌≤◌, length};
 ghost use Rattle.rules.specs.Lists.{any_passes, all_pass};
 ghost use Rattle.rules.specs.Terms.{in_range, holds, opposes, sat};

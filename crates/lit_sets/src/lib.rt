@@ -1,6 +1,7 @@
 // An assignment as 32 words of 64 bits, and a set of literals as two such arrays. One variable or literal more is written in place: by value, all 32 words
 // would be copied each time.
 #![tactic(auto)]
+
 ghost use Rattle.std.specs.Prelude.{◌≡◌, true, ◌≤◌, length};
 ghost use Rattle.std.specs.Int.Bits.{bit_xor};
 ghost use Rattle.rules.specs.Lists.{all_pass};

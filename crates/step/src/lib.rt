@@ -1,5 +1,6 @@
 // The dispatcher: one frame of any words, by the head that it has.
 #![tactic(auto)]
+
 ghost use Rattle.table.specs.Spelled.{Fit};
 ghost use Rattle.step.specs.Steps.{Steps};
 

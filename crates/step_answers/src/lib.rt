@@ -1,5 +1,6 @@
 // SAT and UNSAT, judged and answered: an accepted SAT hands out the mended assignment.
 #![tactic(auto)]
+
 ghost use Rattle.std.specs.Prelude.{◌≡◌, ◌≤◌, length};
 ghost use Rattle.rules.specs.Frames.{SAT, UNSAT};
 ghost use Rattle.rules.specs.Answers.{check};

@@ -1,5 +1,6 @@
 // The operations that write: each judged by &, and applied by &mut only after its acceptance.
 #![tactic(auto)]
+
 ghost use Rattle.std.specs.Prelude.{◌+◌, ◌≤◌, length};
 ghost use Rattle.rules.specs.Frames.{ADD, LEARN, FORGET, PROMOTE, DROP, WEAKEN, RESTORE};
 ghost use Rattle.table.specs.Spelled.{Fit};

@@ -1,5 +1,6 @@
 // From the words of a frame to what its first words say: refusal 2.
 #![tactic(auto)]
+
 ghost use Rattle.std.specs.Prelude.{◌≡◌, ◌-◌, ◌≤◌, ◌<◌, length, get_or};
 ghost use Rattle.rules.specs.Frames.{word, number, least_words};
 ghost use Rattle.rules.specs.Frames as paper;

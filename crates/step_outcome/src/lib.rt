@@ -1,5 +1,6 @@
 // What a frame came to: the answer, the numbers beside the tables, and what was written.
 #![tactic(auto)]
+
 ghost use Rattle.std.specs.Prelude.{◌≡◌, ◌||◌};
 ghost use Rattle.step_outcome.specs.Told.{accepted_with, answered_with, is_tables, refused_with};
 

@@ -7,4 +7,3 @@ use Rattle.judge_hints.proofs.falses_of.Goals as goal
 
 pub returns : goal.returns
 returns c = c.make_false.ensures ∙ less_nothing _ c.args.c.now zeros_empty
-

@@ -56,14 +56,14 @@ loop-i-preserved c =
     let a = c.loop-i.invariant in
     let e = kept_is _ c.has_opposite.ensures in
     elim c.if-not-has_opposite.branch [
-      then-not-has_opposite w ↦ rw (w.opposed-is, w.plus-is, w.minus-is) (making_kept _ _ a more (e ∙ ap not w.if-not-has_opposite.true)
-        (deny_more c.loop-i.opposed F l (ap not c.if-not-opposed.true) (said (opposes F) l_fits w.has_opposite-opposed.ensures)
-        (said (λ z. also z F) l_fits w.insert.ensures)))
-    | else-not-has_opposite w ↦ rw (w.opposed-is, w.plus-is, w.minus-is) (making_gone _ _ a more (e ∙ ap not w.if-not-has_opposite.false)) ]
+      | then-not-has_opposite w ↦ rw (w.opposed-is, w.plus-is, w.minus-is) (making_kept _ _ a more (e ∙ ap not w.if-not-has_opposite.true)
+          (deny_more c.loop-i.opposed F l (ap not c.if-not-opposed.true) (said (opposes F) l_fits w.has_opposite-opposed.ensures)
+          (said (λ z. also z F) l_fits w.insert.ensures)))
+      | else-not-has_opposite w ↦ rw (w.opposed-is, w.plus-is, w.minus-is) (making_gone _ _ a more (e ∙ ap not w.if-not-has_opposite.false))
+    ]
 
 pub returns-else-not-opposed : goal.returns-else-not-opposed
 returns-else-not-opposed c = making_opposed _ _ c.loop-i.invariant (rw c.if-not-opposed.false)
 
 pub returns-after-loop-i : goal.returns-after-loop-i
 returns-after-loop-i c = making_end _ _ c.loop-i.invariant (search rules)
-

@@ -34,4 +34,3 @@ invariant-loop-i l = Making (kept l.wplus l.wminus) l.c (make_false (made l.init
 
 abbrev pub decreases-loop-i : goal.decreases-loop-i
 decreases-loop-i l = length l.c - l.i
-

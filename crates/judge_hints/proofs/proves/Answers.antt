@@ -5,4 +5,3 @@ use Rattle.judge_hints.proofs.proves.Goals as goal
 
 pub returns : goal.returns
 returns c = proved _ _ _ c.falses_of.ensures c.judge.ensures
-

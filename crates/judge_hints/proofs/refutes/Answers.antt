@@ -8,4 +8,3 @@ pub returns : goal.returns
 returns c =
     refuted 2048 _ _ _ c.requires.1
     (made_swapped c.falses_of-same.result ∙ ap swapped c.falses_of-same.ensures) c.judge.ensures
-

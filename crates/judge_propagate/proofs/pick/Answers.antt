@@ -32,8 +32,7 @@ returns-then-id_at-scope c =
     let scope : Scope = c.args.scope in
     let row : Row = row_at c.args.rows.now k in
     let located_at : Located c.args.rows.now (number c.args.hint) (At k) = subst (λ i. Located c.args.rows.now i (At k)) number_is c.in-At.ensures in
-    let names : (b : Bool) → permits scope row ≡ b → (pool : List ℤ) → named (allowed_of scope pool c.args.rows.now) c.args.hint ≡ cond b (clause (clause_part pool row)) nobody = λ b e pool. names_at _ _ c.args.hint c.requires.1 pool k c.requires.0 located_at ∙ ap (λ b. cond b (clause (clause_part pool row)) nobody) e in
-    (
+    let names : (b : Bool) → permits scope row ≡ b → (pool : List ℤ) → named (allowed_of scope pool c.args.rows.now) c.args.hint ≡ cond b (clause (clause_part pool row)) nobody = λ b e pool. names_at _ _ c.args.hint c.requires.1 pool k c.requires.0 located_at ∙ ap (λ b. cond b (clause (clause_part pool row)) nobody) e in (
       located_at.0,
       names true (permits_near scope row c.place_at.ensures c.if-place_at-scope.true c.id_at.ensures (ap not (ne_eqb _ _ c.if-id_at-scope.true))),
     )
@@ -47,5 +46,6 @@ returns c =
     let located_at : Located c.args.rows.now (number c.args.hint) (At k) = subst (λ i. Located c.args.rows.now i (At k)) number_is c.in-At.ensures in
     let names : (b : Bool) → permits scope row ≡ b → (pool : List ℤ) → named (allowed_of scope pool c.args.rows.now) c.args.hint ≡ cond b (clause (clause_part pool row)) nobody = λ b e pool. names_at _ _ c.args.hint c.requires.1 pool k c.requires.0 located_at ∙ ap (λ b. cond b (clause (clause_part pool row)) nobody) e in
     names false (elim c.else-place_at-scope.branch [
-      else-place_at-scope-via-then-place_at-scope+else-id_at-scope w ↦ permits_near scope row c.place_at.ensures w.if-place_at-scope.true w.id_at.ensures (ap not (eq-eqb _ _ w.if-id_at-scope.false))
-    | else-place_at-scope-via-else-place_at-scope w ↦ permits_far scope row c.place_at.ensures w.if-place_at-scope.false ])
+      | else-place_at-scope-via-then-place_at-scope+else-id_at-scope w ↦ permits_near scope row c.place_at.ensures w.if-place_at-scope.true w.id_at.ensures (ap not (eq-eqb _ _ w.if-id_at-scope.false))
+      | else-place_at-scope-via-else-place_at-scope w ↦ permits_far scope row c.place_at.ensures w.if-place_at-scope.false
+    ])

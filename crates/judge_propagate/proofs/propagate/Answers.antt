@@ -36,7 +36,7 @@ has-requires c =
     let F : Literals = set_of c.hints.plus c.hints.minus in
     let lits : List ℤ = c.clause_of-clause.result.now in
     let there : Picked c.args.rows.now c.args.scope hint (At c.in-At.k) =
-        subst (λ l. Picked c.args.rows.now c.args.scope l (At c.in-At.k)) (to_z-of_z hint_fits) c.in-At.ensures in
+    subst (λ l. Picked c.args.rows.now c.args.scope l (At c.in-At.k)) (to_z-of_z hint_fits) c.in-At.ensures in
     let ranged : all_pass (in_range 2048) lits ≡ true = rw c.clause_of-clause.ensures (c.requires.ranged _ there.0) in
     let l : ℤ = get_or lits c.loop-i.i (pos 0) in
     let l_fits : SFits w32 l = record { sfits = c.l-1.given } in
@@ -52,7 +52,7 @@ has_opposite-requires c =
     let F : Literals = set_of c.hints.plus c.hints.minus in
     let lits : List ℤ = c.clause_of-clause.result.now in
     let there : Picked c.args.rows.now c.args.scope hint (At c.in-At.k) =
-        subst (λ l. Picked c.args.rows.now c.args.scope l (At c.in-At.k)) (to_z-of_z hint_fits) c.in-At.ensures in
+    subst (λ l. Picked c.args.rows.now c.args.scope l (At c.in-At.k)) (to_z-of_z hint_fits) c.in-At.ensures in
     let ranged : all_pass (in_range 2048) lits ≡ true = rw c.clause_of-clause.ensures (c.requires.ranged _ there.0) in
     let l : ℤ = get_or lits c.loop-i.i (pos 0) in
     let l_fits : SFits w32 l = record { sfits = c.l-1.given } in
@@ -68,7 +68,7 @@ loop-i-preserved c =
     let F : Literals = set_of c.hints.plus c.hints.minus in
     let lits : List ℤ = c.clause_of-clause.result.now in
     let there : Picked c.args.rows.now c.args.scope hint (At c.in-At.k) =
-        subst (λ l. Picked c.args.rows.now c.args.scope l (At c.in-At.k)) (to_z-of_z hint_fits) c.in-At.ensures in
+    subst (λ l. Picked c.args.rows.now c.args.scope l (At c.in-At.k)) (to_z-of_z hint_fits) c.in-At.ensures in
     let ranged : all_pass (in_range 2048) lits ≡ true = rw c.clause_of-clause.ensures (c.requires.ranged _ there.0) in
     let l : ℤ = get_or lits c.loop-i.i (pos 0) in
     let l_fits : SFits w32 l = record { sfits = c.l-1.given } in
@@ -78,10 +78,11 @@ loop-i-preserved c =
     let true_is : (b : Bool) → b ≡ opposes F (back l) → opposes F l ≡ b = λ b e. sym (said (opposes F) l_fits e) in
     let a = c.loop-i.invariant in (
       elim c.if-not-has.branch [
-        then-not-has+else-open-ne0+else-has_opposite w ↦ rw (w.open-is, to_z-of_z l_fits)
-          (scan_open a.0 more_literals (bits_zero _ w.if-open-ne0.false) l_ranged (e ∙ w.if-not-has.true)
-          (true_is _ w.has_opposite.ensures ∙ w.if-has_opposite.false))
-      | else-not-has w ↦ rw w.open-is (scan_false a.0 more_literals (e ∙ w.if-not-has.false)) ],
+        | then-not-has+else-open-ne0+else-has_opposite w ↦ rw (w.open-is, to_z-of_z l_fits)
+            (scan_open a.0 more_literals (bits_zero _ w.if-open-ne0.false) l_ranged (e ∙ w.if-not-has.true)
+            (true_is _ w.has_opposite.ensures ∙ w.if-has_opposite.false))
+        | else-not-has w ↦ rw w.open-is (scan_false a.0 more_literals (e ∙ w.if-not-has.false))
+      ],
       a.1,
     )
 
@@ -94,7 +95,7 @@ hints-preserved c =
     let F : Literals = set_of c.hints.plus c.hints.minus in
     let lits : List ℤ = c.clause_of-clause.result.now in
     let there : Picked c.args.rows.now c.args.scope hint (At c.in-At.k) =
-        subst (λ l. Picked c.args.rows.now c.args.scope l (At c.in-At.k)) (to_z-of_z hint_fits) c.in-At.ensures in
+    subst (λ l. Picked c.args.rows.now c.args.scope l (At c.in-At.k)) (to_z-of_z hint_fits) c.in-At.ensures in
     let names : named A hint ≡ clause lits = there.1 c.args.pool.now ∙ ap clause (sym c.clause_of-clause.ensures) in
     let opened : ℤ = to_z w32 c.loop-i.open-bits in
     let not_zero : opened ≡ pos 0 → ⊥ = λ z. c.if-open-eq0.false (zero_bits _ z) in
@@ -124,7 +125,7 @@ returns-then-open-eq0 c =
     let F : Literals = set_of c.hints.plus c.hints.minus in
     let lits : List ℤ = c.clause_of-clause.result.now in
     let there : Picked c.args.rows.now c.args.scope hint (At c.in-At.k) =
-        subst (λ l. Picked c.args.rows.now c.args.scope l (At c.in-At.k)) (to_z-of_z hint_fits) c.in-At.ensures in
+    subst (λ l. Picked c.args.rows.now c.args.scope l (At c.in-At.k)) (to_z-of_z hint_fits) c.in-At.ensures in
     let names : named A hint ≡ clause lits = there.1 c.args.pool.now ∙ ap clause (sym c.clause_of-clause.ensures) in
     run_conflict c.hints.invariant more_hints _ names (scan_conflict c.loop-i.invariant.0 c.if-i-clause.true (bits_zero _ c.if-open-eq0.true))
 
@@ -137,7 +138,7 @@ returns-then-open-ne0 c =
     let F : Literals = set_of c.hints.plus c.hints.minus in
     let lits : List ℤ = c.clause_of-clause.result.now in
     let there : Picked c.args.rows.now c.args.scope hint (At c.in-At.k) =
-        subst (λ l. Picked c.args.rows.now c.args.scope l (At c.in-At.k)) (to_z-of_z hint_fits) c.in-At.ensures in
+    subst (λ l. Picked c.args.rows.now c.args.scope l (At c.in-At.k)) (to_z-of_z hint_fits) c.in-At.ensures in
     let names : named A hint ≡ clause lits = there.1 c.args.pool.now ∙ ap clause (sym c.clause_of-clause.ensures) in
     let l : ℤ = get_or lits c.loop-i.i (pos 0) in
     let l_fits : SFits w32 l = record { sfits = c.l-1.given } in
@@ -147,5 +148,6 @@ returns-then-open-ne0 c =
     run_bad c.hints.invariant more_hints _ names
     (scan_bad c.loop-i.invariant.0 more_literals (e ∙ c.if-not-has.true)
     (λ z. elim c.then-open-ne0.branch [
-      then-open-ne0-via-then-open-ne0 w ↦ absurd (w.if-open-ne0.true (zero_bits _ z))
-    | then-open-ne0-via-else-open-ne0+then-has_opposite w ↦ true_is _ w.has_opposite.ensures ∙ w.if-has_opposite.true ]))
+      | then-open-ne0-via-then-open-ne0 w ↦ absurd (w.if-open-ne0.true (zero_bits _ z))
+      | then-open-ne0-via-else-open-ne0+then-has_opposite w ↦ true_is _ w.has_opposite.ensures ∙ w.if-has_opposite.true
+    ]))

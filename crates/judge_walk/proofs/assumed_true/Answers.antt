@@ -30,4 +30,3 @@ loop-i-preserved c =
 
 pub returns : goal.returns
 returns c = all_sound (assumptions _) _ tt _ _ _ c.loop-i.invariant.1 c.loop-i-test.false
-

@@ -20,4 +20,3 @@ invariant-loop-i l = (l.i ≤ length l.c) × (assumed_true (assigned l.words) l.
 
 abbrev pub decreases-loop-i : goal.decreases-loop-i
 decreases-loop-i l = length l.c - l.i
-

@@ -42,4 +42,3 @@ pub returns : goal.returns
 returns c =
     let a = c.args in
     sym (c.loop-j.invariant.1 ∙ bottom_clean a.pool.now a.rows.now a.stack.now c.loop-j.j (omega arith) a.c.now)
-

@@ -23,4 +23,3 @@ invariant-loop-j l = (l.j ≤ length l.stack) × (cleanly l.c (records l.pool l.
 
 abbrev pub decreases-loop-j : goal.decreases-loop-j
 decreases-loop-j l = l.j
-

@@ -13,4 +13,3 @@ returns-then-place_at-eq0 c =
 
 pub returns : goal.returns
 returns c = sym (elsewhere _ _ _ (λ q. c.if-place_at-eq0.false (c.place_at.ensures ∙ q)))
-

@@ -19,8 +19,7 @@ record_at-k-requires c = (c.requires.0.rising, omega arith, sym (has_stacked c.a
 pub loop-j-preserved-then-not-satisfied : goal.loop-j-preserved-then-not-satisfied
 loop-j-preserved-then-not-satisfied c =
     let k : ℕ = c.record_at-k.result in
-    let truth : sat (assigned c.loop-j.words) (clause_part c.args.pool.now (row_at c.args.rows.now k)) ≡ c.satisfied.result = ap (sat _) (sym c.clause_of.ensures) ∙ sym c.satisfied.ensures in
-    (
+    let truth : sat (assigned c.loop-j.words) (clause_part c.args.pool.now (row_at c.args.rows.now k)) ≡ c.satisfied.result = ap (sat _) (sym c.clause_of.ensures) ∙ sym c.satisfied.ensures in (
       omega arith,
       c.loop-j.invariant.1 ∙ top_false c.args.pool.now c.args.rows.now c.args.stack.now c.loop-j.j (omega arith)
           (omega arith) k (c.record_at-k.ensures.held_there _) (assigned c.loop-j.words)
@@ -32,8 +31,7 @@ loop-j-preserved-then-not-satisfied c =
 pub loop-j-preserved : goal.loop-j-preserved
 loop-j-preserved c =
     let k : ℕ = c.record_at-k.result in
-    let truth : sat (assigned c.loop-j.words) (clause_part c.args.pool.now (row_at c.args.rows.now k)) ≡ c.satisfied.result = ap (sat _) (sym c.clause_of.ensures) ∙ sym c.satisfied.ensures in
-    (
+    let truth : sat (assigned c.loop-j.words) (clause_part c.args.pool.now (row_at c.args.rows.now k)) ≡ c.satisfied.result = ap (sat _) (sym c.clause_of.ensures) ∙ sym c.satisfied.ensures in (
       omega arith,
       c.loop-j.invariant.1 ∙ top_true c.args.pool.now c.args.rows.now c.args.stack.now c.loop-j.j (omega arith)
           (omega arith) k (c.record_at-k.ensures.held_there _) (assigned c.loop-j.words) (truth ∙ c.if-not-satisfied.false),
@@ -43,4 +41,3 @@ pub returns : goal.returns
 returns c =
     sym (c.loop-j.invariant.1 ∙ bottom c.args.pool.now c.args.rows.now
     c.args.stack.now c.loop-j.j (omega arith) (assigned c.loop-j.words))
-

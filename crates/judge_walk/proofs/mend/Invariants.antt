@@ -18,4 +18,3 @@ invariant-loop-j l = (l.j ≤ length l.stack) × (mend (assigned l.initial.words
 
 abbrev pub decreases-loop-j : goal.decreases-loop-j
 decreases-loop-j l = l.j
-

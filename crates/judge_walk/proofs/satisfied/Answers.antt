@@ -24,4 +24,3 @@ loop-k-preserved c =
 
 pub returns : goal.returns
 returns c = sym (c.loop-k.invariant.1 ∙ rows_true _ _ _ _ c.loop-k-test.false)
-

@@ -16,4 +16,3 @@ invariant-loop-k l = (l.k ≤ length l.rows) × (satisfied (assigned l.words) (c
 
 abbrev pub decreases-loop-k : goal.decreases-loop-k
 decreases-loop-k l = length l.rows - l.k
-

@@ -11,4 +11,3 @@ put-requires c = omega (arith, numbered_end _ c.put_numbers-a.ensures)
 pub returns : goal.returns
 unfolding in_hex
 returns c = wrote_then c.put_numbers-a.ensures c.put.ensures
-

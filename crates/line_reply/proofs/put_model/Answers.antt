@@ -22,4 +22,3 @@ loop-i-preserved-then-w-eq1 c =
 
 pub loop-i-preserved : goal.loop-i-preserved
 loop-i-preserved c = spelling_false c.loop-i.invariant (search rules) c.if-w-eq1.false
-

@@ -10,4 +10,3 @@ invariant-loop-i l = Spelling l.initial.out l.at l.model l.out l.a l.i
 
 abbrev pub decreases-loop-i : goal.decreases-loop-i
 decreases-loop-i l = 2048 - l.i
-

@@ -14,4 +14,3 @@ unfolding numbered
 returns c =
     wrote_then (wrote_as (ap (hex 8) c.code.ensures) c.put_number-a.ensures)
     (wrote_as (ap (hex 8) c.detail.ensures) c.put_number.ensures)
-

@@ -13,4 +13,3 @@ put-requires c = omega (arith, numbered_end _ c.put_numbers-a.ensures, model_roo
 
 pub returns : goal.returns
 returns c = wrote_then c.put_numbers-a.ensures (wrote_then c.put_model-b.ensures c.put.ensures)
-

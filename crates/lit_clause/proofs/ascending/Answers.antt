@@ -50,4 +50,3 @@ loop-i-preserved c =
 
 pub returns : goal.returns
 returns c = all_sound (ascents _) _ _ _ _ _ c.loop-i.invariant.1 c.loop-i-test.false
-

@@ -23,4 +23,3 @@ invariant-loop-i l = (l.i ≤ length l.vs) × (ascending l.vars 0 l.at l.vs ≡ 
 
 abbrev pub decreases-loop-i : goal.decreases-loop-i
 decreases-loop-i l = length l.vs - l.i
-

@@ -55,4 +55,3 @@ loop-i-preserved c =
 
 pub returns : goal.returns
 returns c = all_sound (flaws _) _ _ _ _ _ c.loop-i.invariant.1 c.loop-i-test.false
-

@@ -22,4 +22,3 @@ invariant-loop-i l = (l.i ≤ length l.c) × (flaw l.vars unseen l.at l.c ≡ fl
 
 abbrev pub decreases-loop-i : goal.decreases-loop-i
 decreases-loop-i l = length l.c - l.i
-

@@ -18,4 +18,3 @@ invariant-loop-i l = (l.i ≤ length l.c) × (holds l.c ≡ with_all (drop l.i l
 
 abbrev pub decreases-loop-i : goal.decreases-loop-i
 decreases-loop-i l = length l.c - l.i
-

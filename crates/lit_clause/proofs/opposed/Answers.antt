@@ -10,4 +10,3 @@ pub returns : goal.returns
 returns c =
     let a = c.args in
     c.shares.ensures ∙ ap (λ (S : Literals). any_passes S a.c.now) (changed_over a.plus.now a.minus.now)
-

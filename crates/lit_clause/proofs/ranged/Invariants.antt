@@ -19,4 +19,3 @@ invariant-loop-i l = (l.i ≤ length l.c) × (ranged l.vars l.at l.c ≡ ranged 
 
 abbrev pub decreases-loop-i : goal.decreases-loop-i
 decreases-loop-i l = length l.c - l.i
-

@@ -19,13 +19,11 @@ returns-then-is_true c =
     (sym (said (lit (assigned _)) (record { sfits = c.is_true-arg-1.given }) c.is_true.ensures) ∙ c.if-is_true.true)
 
 pub loop-i-preserved : goal.loop-i-preserved
-loop-i-preserved c =
-    (
-      search rules,
-      passed _ _ _ c.loop-i.invariant.1 (search rules)
-          (sym (said (lit (assigned _)) (record { sfits = c.is_true-arg-1.given }) c.is_true.ensures) ∙ c.if-is_true.false),
-    )
+loop-i-preserved c = (
+  search rules,
+  passed _ _ _ c.loop-i.invariant.1 (search rules)
+      (sym (said (lit (assigned _)) (record { sfits = c.is_true-arg-1.given }) c.is_true.ensures) ∙ c.if-is_true.false),
+)
 
 pub returns : goal.returns
 returns c = none_found _ _ _ c.loop-i.invariant.1 c.loop-i-test.false
-

@@ -15,4 +15,3 @@ invariant-loop-i l = (l.i ≤ length l.c) × (any_passes (lit (assigned l.words)
 
 abbrev pub decreases-loop-i : goal.decreases-loop-i
 decreases-loop-i l = length l.c - l.i
-

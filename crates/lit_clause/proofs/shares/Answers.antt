@@ -18,13 +18,11 @@ returns-then-has c =
     (sym (said (set_of _ _) (record { sfits = c.has-arg-1.given }) c.has.ensures) ∙ c.if-has.true)
 
 pub loop-i-preserved : goal.loop-i-preserved
-loop-i-preserved c =
-    (
-      search rules,
-      passed _ _ _ c.loop-i.invariant.1 (search rules)
-          (sym (said (set_of _ _) (record { sfits = c.has-arg-1.given }) c.has.ensures) ∙ c.if-has.false),
-    )
+loop-i-preserved c = (
+  search rules,
+  passed _ _ _ c.loop-i.invariant.1 (search rules)
+      (sym (said (set_of _ _) (record { sfits = c.has-arg-1.given }) c.has.ensures) ∙ c.if-has.false),
+)
 
 pub returns : goal.returns
 returns c = none_found _ _ _ c.loop-i.invariant.1 c.loop-i-test.false
-

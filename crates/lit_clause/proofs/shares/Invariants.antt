@@ -14,4 +14,3 @@ invariant-loop-i l = (l.i ≤ length l.c) × (any_passes (set_of l.plus l.minus)
 
 abbrev pub decreases-loop-i : goal.decreases-loop-i
 decreases-loop-i l = length l.c - l.i
-

@@ -15,4 +15,3 @@ pub returns : goal.returns
 returns c =
     let word : bit_xor c.args.x c.args.y < 2 ^ 64 = xor_lt 64 c.args.x c.args.y c.ranges.x.fits c.ranges.y.fits in
     ones_counted 64 _ word
-

@@ -29,4 +29,3 @@ overflow_add-n c =
 
 pub loop-i-preserved : goal.loop-i-preserved
 loop-i-preserved c = (search rules, omega (arith, word_more c.args.a.now c.args.b.now c.loop-i.i, c.bits_apart-n.ensures))
-

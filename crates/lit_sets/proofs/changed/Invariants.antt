@@ -16,4 +16,3 @@ invariant-loop-i l = (l.i ≤ 32) × (l.n ≡ differing (assigned l.a) (assigned
 
 abbrev pub decreases-loop-i : goal.decreases-loop-i
 decreases-loop-i l = 32 - l.i
-

@@ -19,4 +19,3 @@ returns c =
     let v = said nat_abs c.ranges.l c.variable-v.ensures in
     let b = said is_natural c.ranges.l c.is_not_negative.ensures in
     c.value-2.ensures ∙ ap (assigned _) v ∙ has_negative _ _ c.args.l (sym b ∙ c.if-is_not_negative.false)
-

@@ -12,4 +12,3 @@ returns c =
     let a = c.args in
     said (set_of a.minus.now a.plus.now) c.ranges.l c.has.ensures
     ∙ ap (λ (S : Literals). S a.l) (changed_over a.plus.now a.minus.now)
-

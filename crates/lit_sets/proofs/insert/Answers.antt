@@ -23,4 +23,3 @@ returns-else-is_not_negative c =
     let b = said is_natural c.ranges.l c.is_not_negative.ensures in
     also_negative _ _ _ c.args.l (sym b ∙ c.if-is_not_negative.false)
     (c.set_to-else-is_not_negative.ensures ∙ ap (λ (n : ℕ). upd (assigned c.args.minus.now) n true) v)
-

@@ -14,4 +14,3 @@ returns c =
     let v = said nat_abs c.ranges.l c.variable.ensures in
     ap₂ beq (c.value.ensures ∙ ap (assigned c.args.words.now) v) (said is_natural c.ranges.l c.is_not_negative.ensures)
     ∙ lit_by_sign (assigned c.args.words.now) c.args.l c.requires
-

@@ -48,4 +48,3 @@ loop-i-preserved c =
 
 pub returns : goal.returns
 returns c = made_end _ _ _ _ c.loop-i.invariant.1 c.loop-i-test.false
-

@@ -22,4 +22,3 @@ invariant-loop-i l = (l.i ≤ length l.w) × (make (assigned l.initial.out) l.w 
 
 abbrev pub decreases-loop-i : goal.decreases-loop-i
 decreases-loop-i l = length l.w - l.i
-

@@ -9,4 +9,3 @@ use Rattle.lit_sets.proofs.offer.Goals as goal
 
 pub returns : goal.returns
 returns c = c.make_true.ensures ∙ ap (λ (α : Assignment). make α c.args.vs.now) zeros_unset ∙ offered_made c.args.vs.now c.requires.0 c.requires.1
-

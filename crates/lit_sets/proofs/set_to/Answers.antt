@@ -14,4 +14,3 @@ pub returns : goal.returns
 returns c =
     let turns = ap not (sym c.value.ensures) ∙ beq_false c.value.result c.args.b c.if-value-b.false in
     turned_is c.args.words.now c.args.v c.args.b c.requires.0 (omega (arith, c.is_whole.ensures)) turns
-

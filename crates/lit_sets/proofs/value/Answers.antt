@@ -5,4 +5,3 @@ use Rattle.lit_sets.proofs.value.Goals as goal
 
 pub returns : goal.returns
 returns c = read_is c.args.words.now c.args.v c.requires.0
-

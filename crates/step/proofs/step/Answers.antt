@@ -98,4 +98,3 @@ returns-in-Unsat c =
     let fit = c.requires in
     rw c.answered-in-Unsat.ensures (asked fit (two_lists 2 _ n_unsat UNSAT read_unsat.frame) refl _ refl
     (answered_only fit refl c.unsat-answer.ensures))
-

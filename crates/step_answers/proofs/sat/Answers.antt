@@ -17,4 +17,3 @@ returns c =
     let offers : assigned c.judge_sat-offer.result.offered ≡ offered c.args.vs.now = subst (λ k. Offers c.args.vs.now k c.judge_sat-offer.result.offered) c.in_default.is c.judge_sat-offer.ensures.1 in
     sat_accepted c.requires.0 c.args.assumed.now c.args.vs.now (comes_to c.judge_sat-offer.ensures.0 c.in_default.is) _
     c.judge_sat-offer.result.offered c.mend-mended.result c.changed-changed.result offers c.mend-mended.ensures c.changed-changed.ensures
-

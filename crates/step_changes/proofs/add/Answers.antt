@@ -13,4 +13,3 @@ append-requires c =
 
 pub returns : goal.returns
 returns c = accepted c.judge_add-judged.ensures c.in_default.is c.accepted.ensures (c.append.ensures [])
-

@@ -11,4 +11,3 @@ returns c =
     let row : RowOf c.args.t c.args.rows.now 0 c.args.id c.judge_drop-judged.result.row = names c.judge_drop-judged.ensures c.in_default.is in
     accepted c.judge_drop-judged.ensures c.in_default.is c.accepted.ensures
     (of_row (λ p i. goes_by p i c.args.hints.now) row (c.remove.ensures _))
-

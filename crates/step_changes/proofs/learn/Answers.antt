@@ -12,4 +12,3 @@ append-requires c =
 
 pub returns : goal.returns
 returns c = accepted c.judge_learn-judged.ensures c.in_default.is c.accepted.ensures (c.append.ensures c.args.hints.now)
-

@@ -17,4 +17,3 @@ returns c =
     let row : RowOf c.args.t c.args.rows.now 0 c.args.id c.judge_weaken-judged.result.row = names c.judge_weaken-judged.ensures c.in_default.is in
     accepted c.judge_weaken-judged.ensures c.in_default.is c.accepted.ensures
     (of_row (λ p i. WEAKEN i c.args.witness.now c.args.groups.now) row (c.weaken.ensures _))
-

@@ -38,4 +38,3 @@ returns-else-op-eq8 c =
     let unsat_here : (op ≡ 8 → ⊥) → (n : ℕ) → CountsWords 0 ws 1 (Of n) → Reads (row op ws) ws (head.Unsat n) = λ q n k. row_of ws op 9 _ (nine q) (unsat_reads ws n k c.requires.3) in
     unsat_here c.if-op-eq8.false _
     (rw c.in-Of.is at c.count_at.ensures)
-

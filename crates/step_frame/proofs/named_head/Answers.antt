@@ -99,4 +99,3 @@ returns-in_default c =
     let restore_here : op ≡ 7 → Reads (row op ws) ws (pair (length ws) (head.Restore id)) = λ q. row_of ws op 7 _ q (restore_reads ws id c.requires.4 c.requires.5) in
     let seven : op ≡ 7 = omega arith in
     rw c.pair_head-in_default.ensures (restore_here seven)
-

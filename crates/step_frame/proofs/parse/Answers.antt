@@ -65,4 +65,3 @@ returns c =
     let enough : get_or least_words (op - 1) 0 ≤ length ws = rw c.least_words.ensures at c.if-n-least_words.false in
     let frame_by : (h : Head) → Reads (row op ws) ws h → Reads (parse ws) ws h = λ h. by_row ws op op_is h enough (omega arith) in
     frame_by _ c.named_head.ensures
-
