@@ -1,12 +1,11 @@
 -- Each return cites the checks before it.
 use mathlib.Core.Path.{◌≡◌, sym, ◌∙◌}
-use borrow.Author.Rules.{rules}
 use Rattle.rules.specs.Answers.{assumed_true}
 use Rattle.rules.specs.declared.Check.TheVariants.{Passed}
 use Rattle.lit_sets.specs.Words.{assigned}
-use Rattle.table.proofs.Readers.{readable, count_rows}
+use Rattle.table.proofs.Readers.{readable}
 use Rattle.judge_checks.proofs.Order.{goes_on, stops}
-use Rattle.judge_checks.proofs.Stack.{depth_is, stacked}
+use Rattle.judge_checks.proofs.Stack.{stacked}
 use Rattle.judge_answers.proofs.judge_offered.Goals as goal
 
 pub returns-in-Failed : goal.returns-in-Failed

@@ -2,7 +2,6 @@
 use mathlib.Core.Path.{◌≡◌, refl, sym, ◌∙◌, ap}
 use Prim.Native.Nat.{◌+◌}
 use lib.ListN.{length}
-use borrow.Author.Rules.{rules}
 use Rattle.rules.specs.Terms.{State}
 use Rattle.rules.specs.Frames.{SAT}
 use Rattle.rules.specs.Answers.{ranged, ascending, check}

@@ -9,7 +9,7 @@ use Rattle.rules.specs.Propagation.{proves}
 use Rattle.rules.specs.Answers.{ranged, decided, check}
 use Rattle.rules.specs.declared.Check.TheVariants.{Passed}
 use Rattle.lit_clause.proofs.Faults.{ranged_in}
-use Rattle.table.proofs.Readers.{readable, count_rows}
+use Rattle.table.proofs.Readers.{readable}
 use Rattle.judge_propagate.proofs.Scopes.{allows_all}
 use Rattle.judge_checks.proofs.Order.{goes_on, stops}
 use Rattle.judge_checks.proofs.Verdicts.{stopped_within}

@@ -1,15 +1,14 @@
 -- Each return cites the checks before it.
 use mathlib.Core.Path.{◌≡◌, refl, sym, ◌∙◌}
 use lib.Dec.{ltb}
-use borrow.Author.Rules.{rules}
 use Rattle.rules.specs.Answers.{◌then◌, need, flaw, unseen, check}
 use Rattle.rules.specs.declared.Fault.TheVariants.{Id}
 use Rattle.rules.specs.declared.Check.TheVariants.{Passed}
 use Rattle.rules.proofs.Checks.{then_left}
 use Rattle.lit_clause.proofs.Faults.{flaw_in}
-use Rattle.table.proofs.Readers.{readable, count_rows}
+use Rattle.table.proofs.Readers.{readable}
 use Rattle.judge_checks.proofs.Order.{goes_on, stops, in_two}
-use Rattle.judge_checks.proofs.Stack.{depth_is, stacked}
+use Rattle.judge_checks.proofs.Stack.{stacked}
 use Rattle.judge_checks.proofs.Judging.{refuses, decides}
 use Rattle.judge_changes.proofs.judge_add.Goals as goal
 

@@ -3,7 +3,7 @@ use mathlib.Core.Path.{sym, ◌∙◌, ap, ap₂}
 use borrow.Author.Rules.{rules}
 use Rattle.rules.specs.Propagation.{proves}
 use Rattle.rules.specs.Answers.{decided, check}
-use Rattle.table.proofs.Readers.{readable, count_rows}
+use Rattle.table.proofs.Readers.{readable}
 use Rattle.judge_propagate.proofs.Scopes.{allows_others}
 use Rattle.judge_checks.specs.Located.{RowOf}
 use Rattle.judge_checks.proofs.Located.{found, missing, reads_it, has_it, ranged, lits_are}

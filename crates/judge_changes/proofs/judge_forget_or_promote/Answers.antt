@@ -1,5 +1,4 @@
 -- What both ask is one check, so one judgment serves both.
-use borrow.Author.Rules.{rules}
 use Rattle.rules.specs.Answers.{check}
 use Rattle.judge_checks.proofs.Located.{found, missing, has_it}
 use Rattle.judge_checks.proofs.Order.{met, unmet}

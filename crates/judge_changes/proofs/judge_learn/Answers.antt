@@ -1,6 +1,5 @@
 -- Each return cites the checks before it.
 use mathlib.Core.Path.{◌≡◌, refl, sym, ◌∙◌, ap}
-use mathlib.Core.List.{◌++◌}
 use Prim.Native.Nat.{◌+◌}
 use lib.Dec.{ltb}
 use lib.ListN.{length}
@@ -15,7 +14,7 @@ use Rattle.rules.specs.declared.Check.TheVariants.{Passed}
 use Rattle.rules.proofs.Checks.{then_left}
 use Rattle.lit_clause.proofs.Faults.{flaw_in}
 use Rattle.table.specs.Spelled.{spelled}
-use Rattle.table.proofs.Readers.{readable, count_rows}
+use Rattle.table.proofs.Readers.{readable}
 use Rattle.judge_propagate.proofs.Scopes.{allows_all}
 use Rattle.judge_checks.proofs.Order.{goes_on, stops, in_two}
 use Rattle.judge_checks.proofs.Verdicts.{stopped_within}

@@ -1,11 +1,10 @@
 -- Each return cites the checks before it.
 use mathlib.Core.Path.{sym, ◌∙◌, ap, ap₂, subst}
-use borrow.Author.Rules.{rules}
 use Rattle.rules.specs.Frames.{above}
 use Rattle.rules.specs.Answers.{cleanly, check}
 use Rattle.table_slices.specs.Writes.{Among}
 use Rattle.table.specs.Spelled.{spelled}
-use Rattle.table.proofs.Readers.{readable, count_rows, row_stacked}
+use Rattle.table.proofs.Readers.{readable, row_stacked}
 use Rattle.table.proofs.Stacked.{listed_has, listed_fetch}
 use Rattle.judge_checks.specs.Located.{RowOf}
 use Rattle.judge_checks.proofs.Located.{found, missing, reads_it, has_it, ranged, lits_are}

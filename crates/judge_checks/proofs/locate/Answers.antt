@@ -1,11 +1,9 @@
-use mathlib.Core.Path.{sym, ◌∙◌, subst}
+use mathlib.Core.Path.{◌∙◌, subst}
 use Prim.Native.Nat.{ℕ}
-use native.Mathlib.Omega.{arith}
-use borrow.Author.Rules.{rules}
 use Rattle.table.specs.Spelled.{Located, held_rows}
 use Rattle.table.specs.declared.Found.TheVariants.{At}
 use Rattle.table.proofs.Finding.{nowhere}
-use Rattle.judge_checks.proofs.Located.{count_rows, below_count, here, elsewhere}
+use Rattle.judge_checks.proofs.Located.{elsewhere}
 use Rattle.judge_checks.proofs.locate.Goals as goal
 
 pub returns-in_default : goal.returns-in_default

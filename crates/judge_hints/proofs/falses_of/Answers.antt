@@ -2,7 +2,6 @@
 use mathlib.Core.Path.{◌∙◌}
 use Rattle.lit_sets.proofs.Sets.{zeros_empty}
 use Rattle.judge_hints.proofs.Target.{less_nothing}
-use borrow.Author.Rules.{rules}
 use Rattle.judge_hints.proofs.falses_of.Goals as goal
 
 pub returns : goal.returns

@@ -1,23 +1,19 @@
 -- Before each literal, what is left to be made false comes to the whole.
-use mathlib.Core.Path.{◌≡◌, refl, sym, ◌∙◌, ap}
-use mathlib.Core.Bool.{Bool, true, not, cond}
-use mathlib.Core.List.{List}
-use mathlib.Core.Logic.{⊎_elim}
-use Prim.Native.Nat.{ℕ, ◌-◌, ◌<◌}
+use mathlib.Core.Path.{◌≡◌, sym, ◌∙◌, ap}
+use mathlib.Core.Bool.{Bool, true, not}
+use Prim.Native.Nat.{◌<◌}
 use borrow.Author.Rules.{rules}
 use lib.IntN.{ℤ, pos}
 use lib.ListN.{length, get_or}
 use mir.Syntax.{w32}
 use mir.Val.{SFits}
 use mir.Facts.{to_z-of_z}
-use Rattle.rules.specs.Lists.{only}
 use Rattle.rules.specs.Terms.{Literals, in_range, opposes}
 use Rattle.rules.specs.Propagation.{also}
-use Rattle.rules.proofs.Lists.{not-false, all_index}
+use Rattle.rules.proofs.Lists.{all_index}
 use Rattle.lit.proofs.Signed.{back, said}
 use Rattle.lit_sets.specs.Words.{set_of}
-use Rattle.judge_hints.specs.Target.{Made, opposed, falses, make_false}
-use Rattle.judge_hints.proofs.Target.{Making, making_opposed, making_end, making_gone, making_kept, deny_more}
+use Rattle.judge_hints.proofs.Target.{making_opposed, making_end, making_gone, making_kept, deny_more}
 use Rattle.judge_hints.proofs.make_false.Goals as goal
 use Rattle.judge_hints.proofs.make_false.Goals.{then-not-has_opposite, else-not-has_opposite}
 

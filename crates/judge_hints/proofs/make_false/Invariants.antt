@@ -1,23 +1,14 @@
 -- Before each literal, what is left to be made false comes to the whole.
-use mathlib.Core.Path.{◌≡◌, refl, sym, ◌∙◌, ap}
-use mathlib.Core.Bool.{Bool, true, not, cond}
+use mathlib.Core.Bool.{Bool, not, cond}
 use mathlib.Core.List.{List}
-use mathlib.Core.Logic.{⊎_elim}
-use Prim.Native.Nat.{ℕ, ◌-◌, ◌<◌}
-use borrow.Author.Rules.{rules}
-use lib.IntN.{ℤ, pos}
-use lib.ListN.{length, get_or}
-use mir.Syntax.{w32}
-use mir.Val.{SFits}
-use mir.Facts.{to_z-of_z}
+use Prim.Native.Nat.{ℕ, ◌-◌}
+use lib.IntN.{ℤ}
+use lib.ListN.{length}
 use Rattle.rules.specs.Lists.{only}
-use Rattle.rules.specs.Terms.{Literals, in_range, opposes}
-use Rattle.rules.specs.Propagation.{also}
-use Rattle.rules.proofs.Lists.{not-false, all_index}
-use Rattle.lit.proofs.Signed.{back, said}
+use Rattle.rules.specs.Terms.{opposes}
 use Rattle.lit_sets.specs.Words.{set_of}
 use Rattle.judge_hints.specs.Target.{Made, opposed, falses, make_false}
-use Rattle.judge_hints.proofs.Target.{Making, making_opposed, making_end, making_gone, making_kept, deny_more}
+use Rattle.judge_hints.proofs.Target.{Making}
 use Rattle.judge_hints.proofs.make_false.Given as goal
 
 -- Before each literal, what is left to be made false comes to the whole.

@@ -1,6 +1,5 @@
 -- A target made false literal by literal is the paper's.
 use Rattle.judge_hints.proofs.Target.{proved}
-use borrow.Author.Rules.{rules}
 use Rattle.judge_hints.proofs.proves.Goals as goal
 
 pub returns : goal.returns

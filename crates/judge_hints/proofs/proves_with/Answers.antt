@@ -1,6 +1,5 @@
 -- The same, in two parts.
 use Rattle.judge_hints.proofs.Target.{in_two_parts, proved}
-use borrow.Author.Rules.{rules}
 use Rattle.judge_hints.proofs.proves_with.Goals as goal
 
 pub returns : goal.returns

@@ -1,7 +1,6 @@
 -- The same, with the two arrays changed over.
 use mathlib.Core.Path.{◌∙◌, ap}
 use Rattle.judge_hints.proofs.Target.{swapped, made_swapped, refuted}
-use borrow.Author.Rules.{rules}
 use Rattle.judge_hints.proofs.refutes.Goals as goal
 
 pub returns : goal.returns

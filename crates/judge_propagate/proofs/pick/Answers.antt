@@ -2,15 +2,12 @@
 use mathlib.Core.Path.{◌≡◌, ◌∙◌, ap, subst}
 use mathlib.Core.Bool.{Bool, true, false, cond, not}
 use mathlib.Core.List.{List}
-use mathlib.Core.Logic.{⊎_elim}
 use Prim.Native.Nat.{ℕ}
 use lib.IntN.{ℤ}
-use borrow.Author.Rules.{rules}
 use Rattle.rules.specs.Propagation.{nobody, clause, named}
 use Rattle.rules.specs.Frames.{number}
 use Rattle.lit.proofs.Signed.{said}
 use Rattle.table.specs.Spelled.{Row, row_at, clause_part, Located}
-use Rattle.table.specs.declared.Found.{Found}
 use Rattle.table.specs.declared.Found.TheVariants.{At, Nothing}
 use Rattle.judge_propagate.specs.Scope.{permits, allowed_of}
 use Rattle.judge_propagate.specs.declared.Scope.{Scope}

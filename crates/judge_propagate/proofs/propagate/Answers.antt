@@ -3,8 +3,7 @@
 use mathlib.Core.Path.{◌≡◌, refl, sym, ◌∙◌, ap, subst}
 use mathlib.Core.Bool.{Bool, true}
 use mathlib.Core.List.{List}
-use mathlib.Core.Logic.{⊎_elim}
-use Prim.Native.Nat.{◌-◌, ◌<◌}
+use Prim.Native.Nat.{◌<◌}
 use borrow.Author.Rules.{rules}
 use lib.IntN.{ℤ, pos}
 use lib.ListN.{length, get_or}
@@ -13,15 +12,14 @@ use mir.Val.{SFits, to_z}
 use mir.Facts.{to_z-of_z}
 use Rattle.rules.specs.Lists.{all_pass}
 use Rattle.rules.specs.Terms.{Literals, in_range, opposes}
-use Rattle.rules.specs.Propagation.{clause, Allowed, named, also, run}
-use Rattle.rules.proofs.Lists.{not-true, not-false, all_index}
-use Rattle.lit.proofs.Signed.{back, said, zero_bits, bits_zero, opposite_in, opposite_back}
+use Rattle.rules.specs.Propagation.{clause, Allowed, named, also}
+use Rattle.rules.proofs.Lists.{all_index}
+use Rattle.lit.proofs.Signed.{back, said, zero_bits, bits_zero, opposite_back}
 use Rattle.lit_sets.specs.Words.{set_of}
-use Rattle.table.specs.declared.Found.{Found}
 use Rattle.table.specs.declared.Found.TheVariants.{At, Nothing}
 use Rattle.judge_propagate.specs.Scope.{allowed_of, Picked}
-use Rattle.judge_propagate.proofs.Scan.{Scanned, scan_start, scan_false, scan_bad, scan_open, scan_conflict, scan_forced}
-use Rattle.judge_propagate.proofs.Runs.{Running, run_used_up, run_nobody, run_conflict, run_bad, run_forced}
+use Rattle.judge_propagate.proofs.Scan.{scan_start, scan_false, scan_bad, scan_open, scan_conflict, scan_forced}
+use Rattle.judge_propagate.proofs.Runs.{run_used_up, run_nobody, run_conflict, run_bad, run_forced}
 use Rattle.judge_propagate.proofs.propagate.Goals as goal
 use Rattle.judge_propagate.proofs.propagate.Goals.{then-not-has+else-open-ne0+else-has_opposite, else-not-has, then-open-ne0-via-then-open-ne0, then-open-ne0-via-else-open-ne0+then-has_opposite}
 

@@ -1,13 +1,9 @@
 -- Invariant: the whole check is the check of the assumptions left.
 use mathlib.Core.Path.{◌≡◌, refl, sym, ◌∙◌}
-use Prim.Native.Nat.{◌+◌, ◌-◌, ◌≤◌}
-use native.Mathlib.Nat.{add-zero}
 use borrow.Author.Rules.{rules}
 use lib.IntN.{pos}
-use lib.ListN.{length, get_or, drop}
+use lib.ListN.{get_or}
 use Rattle.rules.specs.Terms.{lit}
-use Rattle.rules.specs.Answers.{assumed_true}
-use Rattle.rules.proofs.Lists.{not-true, not-false}
 use Rattle.lit.proofs.Signed.{said}
 use Rattle.lit_sets.specs.Words.{assigned}
 use Rattle.lit_clause.proofs.Reading.{read_in}

@@ -1,18 +1,9 @@
 -- Invariant: the whole check is the check of the assumptions left.
-use mathlib.Core.Path.{◌≡◌, refl, sym, ◌∙◌}
+use mathlib.Core.Path.{◌≡◌}
 use Prim.Native.Nat.{◌+◌, ◌-◌, ◌≤◌}
-use native.Mathlib.Nat.{add-zero}
-use borrow.Author.Rules.{rules}
-use lib.IntN.{pos}
-use lib.ListN.{length, get_or, drop}
-use Rattle.rules.specs.Terms.{lit}
+use lib.ListN.{length, drop}
 use Rattle.rules.specs.Answers.{assumed_true}
-use Rattle.rules.proofs.Lists.{not-true, not-false}
-use Rattle.lit.proofs.Signed.{said}
 use Rattle.lit_sets.specs.Words.{assigned}
-use Rattle.lit_clause.proofs.Reading.{read_in}
-use Rattle.lit_clause.proofs.Faults.{faulty, sound_on, all_sound}
-use Rattle.judge_walk.proofs.Walks.{assumptions}
 use Rattle.judge_walk.proofs.assumed_true.Given as goal
 
 abbrev pub invariant-loop-i : goal.invariant-loop-i

@@ -3,7 +3,6 @@ use mathlib.Core.Bool.{not}
 use Rattle.rules.specs.Terms.{sat}
 use Rattle.lit_sets.specs.Words.{assigned}
 use Rattle.judge_walk.proofs.Walks.{elsewhere, irredundant_row}
-use borrow.Author.Rules.{rules}
 use Rattle.judge_walk.proofs.is_falsified.Goals as goal
 
 pub returns-then-place_at-eq0 : goal.returns-then-place_at-eq0

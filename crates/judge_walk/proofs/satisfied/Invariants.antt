@@ -1,14 +1,10 @@
 -- Invariant: every irredundant clause passed is true, so the rest decides.
-use Rattle.rules.specs.declared.Fault.TheVariants.{Falsified}
-use Rattle.rules.specs.declared.Check.TheVariants.{Failed}
-use mathlib.Core.Path.{◌≡◌, refl, sym, ◌∙◌, ap}
-use Prim.Native.Nat.{◌-◌, ◌≤◌, ◌<◌}
-use borrow.Author.Rules.{rules}
+use mathlib.Core.Path.{◌≡◌}
+use Prim.Native.Nat.{◌-◌, ◌≤◌}
 use lib.ListN.{length, drop}
 use Rattle.rules.specs.Answers.{satisfied}
 use Rattle.lit_sets.specs.Words.{assigned}
 use Rattle.table.specs.Spelled.{clauses}
-use Rattle.judge_walk.proofs.Walks.{row_passes, row_fails, rows_true}
 use Rattle.judge_walk.proofs.satisfied.Given as goal
 
 abbrev pub invariant-loop-k : goal.invariant-loop-k

@@ -1,11 +1,8 @@
 -- `line_close::close` meets its contract: each way out cites its laws in Replying.
 use mathlib.Core.Path.{◌≡◌, sym, ◌∙◌}
-use mathlib.Core.Bool.{true, false}
-use native.Mathlib.Omega.{arith}
-use lib.Seq.{length-take-le}
+use mathlib.Core.Bool.{true}
 use Rattle.line_read.specs.Machine.{is_frame}
-use Rattle.line_close.proofs.Replying.{close_spoilt, close_framed, alters_nothing, alters_framed}
-use borrow.Author.Rules.{rules}
+use Rattle.line_close.proofs.Replying.{close_framed}
 use Rattle.line_close.proofs.close.Goals as goal
 
 pub returns-then-is_framed-clause-closed : goal.returns-then-is_framed-clause-closed

@@ -1,15 +1,12 @@
 -- The loop by line_read's Feeding, one law for each way on; what it keeps of the tables is in Tables.
-use mathlib.Core.Path.{◌≡◌, refl, ◌∙◌}
-use mathlib.Core.List.{List}
-use Prim.Native.Nat.{ℕ, ◌+◌, ◌-◌, ◌≤◌, ◌<◌}
-use native.Mathlib.Omega.{arith}
+use mathlib.Core.Path.{◌≡◌}
+use Prim.Native.Nat.{◌-◌}
 use lib.ListN.{length}
 use Rattle.table.specs.Spelled.{spelled}
 use Rattle.line_hex.specs.Hex.{Values}
-use Rattle.line_read.specs.Machine.{Session, frame, session_of}
-use Rattle.line_read.proofs.Feeding.{Feeding, feeding_start, feeding_words, feeding_push, feeding_close, fed_room, fed_end}
-use Rattle.line_feed.proofs.Tables.{Tables, tables_start, tables_more}
-use borrow.Author.Rules.{rules}
+use Rattle.line_read.specs.Machine.{session_of}
+use Rattle.line_read.proofs.Feeding.{Feeding}
+use Rattle.line_feed.proofs.Tables.{Tables}
 use Rattle.line_feed.proofs.feed.Given as goal
 
 abbrev pub invariant-loop-i : goal.invariant-loop-i

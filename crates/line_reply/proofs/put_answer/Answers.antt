@@ -1,5 +1,4 @@
 use native.Mathlib.Omega.{arith}
-use borrow.Author.Rules.{rules}
 use Rattle.line_read.specs.Lines.{in_hex}
 use Rattle.line_read.proofs.Replies.{numbered_end}
 use Rattle.line_put.proofs.Writing.{wrote_then}

@@ -1,8 +1,6 @@
-use mathlib.Core.Path.{◌≡◌}
-use Prim.Native.Nat.{◌-◌}
 use native.Mathlib.Omega.{arith}
 use borrow.Author.Rules.{rules}
-use Rattle.line_reply.proofs.Model.{Spelling, spelling_start, spelling_room, spelling_true, spelling_false, spelling_past}
+use Rattle.line_reply.proofs.Model.{spelling_start, spelling_room, spelling_true, spelling_false, spelling_past}
 use Rattle.line_reply.proofs.put_model.Goals as goal
 
 pub loop-i-init : goal.loop-i-init

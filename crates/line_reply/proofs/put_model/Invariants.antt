@@ -1,8 +1,5 @@
-use mathlib.Core.Path.{◌≡◌}
 use Prim.Native.Nat.{◌-◌}
-use native.Mathlib.Omega.{arith}
-use borrow.Author.Rules.{rules}
-use Rattle.line_reply.proofs.Model.{Spelling, spelling_start, spelling_room, spelling_true, spelling_false, spelling_past}
+use Rattle.line_reply.proofs.Model.{Spelling}
 use Rattle.line_reply.proofs.put_model.Given as goal
 
 abbrev pub invariant-loop-i : goal.invariant-loop-i

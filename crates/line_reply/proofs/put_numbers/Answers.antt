@@ -1,6 +1,5 @@
 use mathlib.Core.Path.{ap}
 use native.Mathlib.Omega.{arith}
-use borrow.Author.Rules.{rules}
 use Rattle.line_hex.specs.Hex.{hex}
 use Rattle.line_read.specs.Lines.{numbered}
 use Rattle.line_put.proofs.Writing.{hex_end, wrote_then, wrote_as}

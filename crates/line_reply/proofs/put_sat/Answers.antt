@@ -1,5 +1,4 @@
 use native.Mathlib.Omega.{arith}
-use borrow.Author.Rules.{rules}
 use Rattle.line_read.proofs.Replies.{numbered_end}
 use Rattle.line_put.proofs.Writing.{wrote_then}
 use Rattle.line_reply.proofs.Model.{model_room}

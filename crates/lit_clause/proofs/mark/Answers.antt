@@ -1,16 +1,14 @@
 -- Invariant: the literals of the list are those in the set and those left.
-use mathlib.Core.Path.{◌≡◌}
-use Prim.Native.Nat.{◌≤◌, ◌<◌, ◌-◌}
+use Prim.Native.Nat.{◌<◌}
 use borrow.Author.Rules.{rules}
 use lib.IntN.{ℤ, pos}
-use lib.ListN.{length, get_or, drop}
+use lib.ListN.{length, get_or}
 use mir.Syntax.{w32}
 use mir.Val.{SFits}
-use Rattle.rules.specs.Terms.{holds}
 use Rattle.rules.specs.Propagation.{also}
 use Rattle.lit.proofs.Signed.{said}
 use Rattle.lit_sets.specs.Words.{set_of}
-use Rattle.lit_clause.proofs.Reading.{read_in, with_all, none_marked, marked, all_marked}
+use Rattle.lit_clause.proofs.Reading.{read_in, none_marked, marked, all_marked}
 use Rattle.lit_clause.proofs.mark.Goals as goal
 
 pub loop-i-init : goal.loop-i-init

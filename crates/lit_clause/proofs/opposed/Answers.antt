@@ -1,6 +1,5 @@
 -- The arrays changed over are the set of the opposites.
 use mathlib.Core.Path.{◌∙◌, ap}
-use borrow.Author.Rules.{rules}
 use Rattle.rules.specs.Lists.{any_passes}
 use Rattle.rules.specs.Terms.{Literals}
 use Rattle.lit_sets.proofs.Sets.{changed_over}

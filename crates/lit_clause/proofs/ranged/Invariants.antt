@@ -1,17 +1,8 @@
 -- Invariant: the whole check is the check of the words left.
-use mathlib.Core.Path.{◌≡◌, refl, sym, ◌∙◌}
+use mathlib.Core.Path.{◌≡◌}
 use Prim.Native.Nat.{◌+◌, ◌≤◌, ◌-◌}
-use native.Mathlib.Nat.{add-zero}
-use borrow.Author.Rules.{rules}
-use lib.IntN.{ℤ, pos}
-use lib.ListN.{length, get_or, drop}
-use mir.Syntax.{w32}
-use mir.Val.{SFits}
-use Rattle.rules.specs.Terms.{in_range}
+use lib.ListN.{length, drop}
 use Rattle.rules.specs.Answers.{ranged}
-use Rattle.rules.proofs.Lists.{not-true, not-false}
-use Rattle.lit.proofs.Signed.{said}
-use Rattle.lit_clause.proofs.Faults.{ranges, faulty, sound_on, all_sound}
 use Rattle.lit_clause.proofs.ranged.Given as goal
 
 abbrev pub invariant-loop-i : goal.invariant-loop-i

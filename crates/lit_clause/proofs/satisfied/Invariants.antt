@@ -1,13 +1,10 @@
 -- Invariant: no literal passed is true, so the rest decides.
-use mathlib.Core.Path.{◌≡◌, refl, sym, ◌∙◌}
+use mathlib.Core.Path.{◌≡◌}
 use Prim.Native.Nat.{◌≤◌, ◌-◌}
-use borrow.Author.Rules.{rules}
 use lib.ListN.{length, drop}
 use Rattle.rules.specs.Lists.{any_passes}
 use Rattle.rules.specs.Terms.{lit}
-use Rattle.lit.proofs.Signed.{said}
 use Rattle.lit_sets.specs.Words.{assigned}
-use Rattle.lit_clause.proofs.Reading.{read_in, found, passed, none_found}
 use Rattle.lit_clause.proofs.satisfied.Given as goal
 
 abbrev pub invariant-loop-i : goal.invariant-loop-i

@@ -1,9 +1,6 @@
 -- Invariant: no literal passed is in the set, so the rest decides.
-use mathlib.Core.Path.{◌≡◌, refl, sym, ◌∙◌}
-use Prim.Native.Nat.{◌≤◌, ◌-◌}
+use mathlib.Core.Path.{sym, ◌∙◌}
 use borrow.Author.Rules.{rules}
-use lib.ListN.{length, drop}
-use Rattle.rules.specs.Lists.{any_passes}
 use Rattle.lit.proofs.Signed.{said}
 use Rattle.lit_sets.specs.Words.{set_of}
 use Rattle.lit_clause.proofs.Reading.{read_in, found, passed, none_found}

@@ -1,9 +1,8 @@
 -- The sign picks the array, the variable the bit.
 use mathlib.Core.Path.{sym, ◌∙◌, ap}
-use borrow.Author.Rules.{rules}
 use lib.IntN.{nat_abs}
 use Rattle.lit.specs.Signs.{is_natural}
-use Rattle.lit.proofs.Signed.{variable_asked, variable_bounds, said}
+use Rattle.lit.proofs.Signed.{said}
 use Rattle.lit_sets.specs.Words.{assigned}
 use Rattle.lit_sets.proofs.Sets.{has_positive, has_negative}
 use Rattle.lit_sets.proofs.has.Goals as goal

@@ -1,6 +1,5 @@
 -- The arrays changed over are the set of the opposites.
 use mathlib.Core.Path.{◌∙◌, ap}
-use borrow.Author.Rules.{rules}
 use Rattle.lit.proofs.Signed.{said}
 use Rattle.rules.specs.Terms.{Literals}
 use Rattle.lit_sets.specs.Words.{set_of}

@@ -2,11 +2,10 @@
 use mathlib.Core.Path.{sym, ◌∙◌, ap}
 use mathlib.Core.Bool.{true}
 use Prim.Native.Nat.{ℕ}
-use borrow.Author.Rules.{rules}
 use lib.IntN.{nat_abs}
 use Rattle.rules.specs.Terms.{upd}
 use Rattle.lit.specs.Signs.{is_natural}
-use Rattle.lit.proofs.Signed.{variable_asked, variable_bounds, said}
+use Rattle.lit.proofs.Signed.{said}
 use Rattle.lit_sets.specs.Words.{assigned}
 use Rattle.lit_sets.proofs.Sets.{also_positive, also_negative}
 use Rattle.lit_sets.proofs.insert.Goals as goal

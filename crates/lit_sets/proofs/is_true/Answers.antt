@@ -1,10 +1,9 @@
 -- A literal is true where its variable has its sign.
 use mathlib.Core.Path.{◌∙◌, ap, ap₂}
 use mathlib.Core.Bool.{beq}
-use borrow.Author.Rules.{rules}
 use lib.IntN.{nat_abs}
 use Rattle.lit.specs.Signs.{is_natural}
-use Rattle.lit.proofs.Signed.{variable_asked, variable_bounds, said}
+use Rattle.lit.proofs.Signed.{said}
 use Rattle.lit_sets.specs.Words.{assigned}
 use Rattle.lit_sets.proofs.Sets.{lit_by_sign}
 use Rattle.lit_sets.proofs.is_true.Goals as goal

@@ -1,15 +1,14 @@
 -- Invariant: the literals that are left, made true from here, give the whole.
-use mathlib.Core.Path.{◌≡◌, refl, ◌∙◌, ap₂}
+use mathlib.Core.Path.{◌≡◌, ◌∙◌, ap₂}
 use mathlib.Core.Bool.{true}
 use mathlib.Core.List.{List}
-use Prim.Native.Nat.{◌≤◌, ◌<◌, ◌-◌}
+use Prim.Native.Nat.{◌<◌}
 use borrow.Author.Rules.{rules}
 use lib.IntN.{ℤ, pos, nat_abs}
-use lib.ListN.{length, get_or, drop}
+use lib.ListN.{length, get_or}
 use mir.Syntax.{w32}
 use mir.Val.{SFits}
 use Rattle.rules.specs.Terms.{in_range, upd}
-use Rattle.rules.specs.Frames.{make}
 use Rattle.rules.proofs.Lists.{all_index}
 use Rattle.lit.specs.Signs.{is_natural}
 use Rattle.lit.proofs.Signed.{variable_asked, variable_bounds, said}

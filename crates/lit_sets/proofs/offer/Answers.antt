@@ -1,6 +1,5 @@
 -- The variables are positive literals, so to offer them is to make them true from nothing.
 use mathlib.Core.Path.{◌∙◌, ap}
-use borrow.Author.Rules.{rules}
 use Rattle.rules.specs.Terms.{Assignment}
 use Rattle.rules.specs.Frames.{make}
 use Rattle.lit_sets.proofs.Assigned.{zeros_unset}

@@ -2,7 +2,6 @@
 use mathlib.Core.Path.{sym, ◌∙◌, ap}
 use mathlib.Core.Bool.{not}
 use native.Mathlib.Omega.{arith}
-use borrow.Author.Rules.{rules}
 use Rattle.lit_sets.specs.Words.{assigned}
 use Rattle.lit_sets.proofs.Assigned.{upd_same, turned_is, beq_true, beq_false}
 use Rattle.lit_sets.proofs.set_to.Goals as goal

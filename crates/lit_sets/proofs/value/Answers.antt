@@ -1,5 +1,4 @@
 -- The bit that is read is the one that `assigned` names.
-use borrow.Author.Rules.{rules}
 use Rattle.lit_sets.proofs.Assigned.{read_is}
 use Rattle.lit_sets.proofs.value.Goals as goal
 

@@ -2,15 +2,12 @@
 use mathlib.Core.Path.{◌≡◌, refl, subst}
 use mathlib.Core.List.{List}
 use Prim.Native.Nat.{ℕ}
-use native.Mathlib.Omega.{arith}
 use lib.IntN.{ℤ}
-use lib.ListN.{length}
 use Rattle.rules.specs.Frames.{ADD, LEARN, DROP, WEAKEN, SAT, UNSAT, parse}
 use Rattle.step_frame.specs.Head.{Reads}
 use Rattle.step_frame.specs.declared.Head.{Head}
 use Rattle.step_frame.specs.declared.Head.TheVariants as head
-use Rattle.step.proofs.Stepping.{short, one_list, two_lists, both_short, no_frame, applied, asked, answered_only}
-use borrow.Author.Rules.{rules}
+use Rattle.step.proofs.Stepping.{one_list, two_lists, no_frame, applied, asked, answered_only}
 use Rattle.step.proofs.step.Goals as goal
 
 pub returns-in-Malformed : goal.returns-in-Malformed

@@ -1,12 +1,11 @@
-use mathlib.Core.Path.{◌≡◌, sym, subst}
-use borrow.Author.Rules.{rules}
+use mathlib.Core.Path.{◌≡◌, subst}
 use Rattle.rules.specs.Frames.{offered}
 use Rattle.lit_sets.specs.Words.{assigned}
-use Rattle.table.proofs.Readers.{readable, count_rows}
+use Rattle.table.proofs.Readers.{readable}
 use Rattle.judge_checks.proofs.Judging.{comes_to}
-use Rattle.judge_checks.proofs.Stack.{stacked, depth_is}
+use Rattle.judge_checks.proofs.Stack.{stacked}
 use Rattle.judge_answers.specs.Offered.{Offers}
-use Rattle.step_answers.proofs.Mending.{sat_refused, sat_accepted}
+use Rattle.step_answers.proofs.Mending.{sat_accepted}
 use Rattle.step_answers.proofs.sat.Goals as goal
 
 pub mend-mended-requires : goal.mend-mended-requires

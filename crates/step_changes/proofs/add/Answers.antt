@@ -2,8 +2,7 @@ use mathlib.Core.List.{[]}
 use native.Mathlib.Omega.{arith}
 use Rattle.table_write.specs.Moved.{NewClause}
 use Rattle.judge_checks.proofs.Judging.{comes_to}
-use Rattle.step_changes.proofs.Passing.{refused, accepted, add_passed}
-use borrow.Author.Rules.{rules}
+use Rattle.step_changes.proofs.Passing.{accepted, add_passed}
 use Rattle.step_changes.proofs.add.Goals as goal
 
 pub append-requires : goal.append-requires

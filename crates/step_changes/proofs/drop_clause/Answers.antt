@@ -1,9 +1,7 @@
-use native.Mathlib.Omega.{arith}
 use Rattle.table_write.specs.Moved.{goes_by}
 use Rattle.judge_checks.specs.Located.{RowOf}
 use Rattle.judge_checks.proofs.Judging.{names}
-use Rattle.step_changes.proofs.Passing.{refused, accepted, of_row}
-use borrow.Author.Rules.{rules}
+use Rattle.step_changes.proofs.Passing.{accepted, of_row}
 use Rattle.step_changes.proofs.drop_clause.Goals as goal
 
 pub returns : goal.returns

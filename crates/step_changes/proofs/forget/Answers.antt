@@ -1,10 +1,8 @@
 use mathlib.Core.List.{[]}
-use native.Mathlib.Omega.{arith}
 use Rattle.table_write.specs.Moved.{goes_by}
 use Rattle.judge_checks.specs.Located.{RowOf}
 use Rattle.judge_checks.proofs.Judging.{names}
-use Rattle.step_changes.proofs.Passing.{refused, accepted, of_row}
-use borrow.Author.Rules.{rules}
+use Rattle.step_changes.proofs.Passing.{accepted, of_row}
 use Rattle.step_changes.proofs.forget.Goals as goal
 
 pub returns : goal.returns

@@ -1,8 +1,7 @@
 use native.Mathlib.Omega.{arith}
 use Rattle.table_write.specs.Moved.{NewClause}
 use Rattle.judge_checks.proofs.Judging.{comes_to}
-use Rattle.step_changes.proofs.Passing.{refused, accepted, learn_passed}
-use borrow.Author.Rules.{rules}
+use Rattle.step_changes.proofs.Passing.{accepted, learn_passed}
 use Rattle.step_changes.proofs.learn.Goals as goal
 
 pub append-requires : goal.append-requires

@@ -2,8 +2,7 @@ use Rattle.rules.specs.Frames.{WEAKEN}
 use Rattle.weaken_write.specs.Records.{Weakenable}
 use Rattle.judge_checks.specs.Located.{RowOf}
 use Rattle.judge_checks.proofs.Judging.{comes_to, names}
-use Rattle.step_changes.proofs.Passing.{refused, accepted, of_row, weakenable}
-use borrow.Author.Rules.{rules}
+use Rattle.step_changes.proofs.Passing.{accepted, of_row, weakenable}
 use Rattle.step_changes.proofs.weaken.Goals as goal
 
 pub weaken-requires : goal.weaken-requires

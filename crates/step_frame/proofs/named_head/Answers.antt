@@ -1,16 +1,15 @@
-use mathlib.Core.Path.{◌≡◌, refl}
+use mathlib.Core.Path.{◌≡◌}
 use mathlib.Core.List.{List}
-use Prim.Native.Nat.{ℕ, ◌-◌, ◌≤◌, ◌<◌}
+use Prim.Native.Nat.{ℕ, ◌≤◌, ◌<◌}
 use native.Mathlib.Omega.{arith}
 use lib.IntN.{ℤ}
-use lib.ListN.{length, get_or}
-use borrow.Author.Rules.{rules}
-use Rattle.rules.specs.Frames.{least_words, LEARN, WEAKEN}
+use lib.ListN.{length}
+use Rattle.rules.specs.Frames.{LEARN, WEAKEN}
 use Rattle.step_frame.specs.Head.{CountsWords, row, pair, Reads}
 use Rattle.step_frame.specs.declared.Head.TheVariants as head
 use Rattle.step_frame.specs.declared.Count.TheVariants.{Of, Wrong}
 use Rattle.step_frame.proofs.Rows.{add_reads, add_long, forget_reads, promote_reads, drop_reads, restore_reads, learn_reads, weaken_reads, unlisted}
-use Rattle.step_frame.proofs.Rows.{row_of, least_two, not_this}
+use Rattle.step_frame.proofs.Rows.{row_of, least_two}
 use Rattle.step_frame.proofs.named_head.Goals as goal
 
 pub returns-then-n-le258 : goal.returns-then-n-le258

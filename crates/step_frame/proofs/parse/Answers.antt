@@ -9,7 +9,7 @@ use Rattle.rules.specs.Frames.{word, number, least_words, parse}
 use Rattle.step_frame.specs.Head.{row, Reads}
 use Rattle.step_frame.specs.declared.Head.{Head}
 use Rattle.step_frame.specs.declared.Head.TheVariants as head
-use Rattle.step_frame.proofs.Rows.{empty, too_long, too_short, no_row, by_row, no_operation, unknown, unnamed, least_two}
+use Rattle.step_frame.proofs.Rows.{empty, too_long, too_short, no_row, by_row, no_operation, unknown, unnamed}
 use Rattle.step_frame.proofs.parse.Goals as goal
 
 pub returns-then-n-eq0 : goal.returns-then-n-eq0

@@ -1,17 +1,11 @@
 -- Invariant: what the groups come to is what those of the rows left come to, from the word `at` on.
 use mathlib.Core.Path.{◌≡◌, sym, ◌∙◌}
-use mathlib.Core.Logic.{⊎_elim}
-use Prim.Native.Nat.{◌+◌, ◌-◌, ◌≤◌, ◌<◌}
+use Prim.Native.Nat.{◌+◌, ◌<◌}
 use native.Mathlib.Omega.{arith}
-use lib.ListN.{length, drop}
+use lib.ListN.{length}
 use borrow.Author.Rules.{rules}
-use Rattle.rules.specs.Lists.{only}
-use Rattle.rules.specs.Propagation.{among}
-use Rattle.rules.specs.Frames.{needs_group}
-use Rattle.rules.specs.Answers.{groups}
 use Rattle.lit_sets.specs.Words.{set_of}
-use Rattle.weaken_groups.specs.Groups.{others, groups_at}
-use Rattle.weaken_groups.proofs.Due.{due, due_are, judged, passed, words_left, all_judged}
+use Rattle.weaken_groups.proofs.Due.{due_are, judged, passed, words_left, all_judged}
 use Rattle.weaken_groups.proofs.all_groups.Goals as goal
 use Rattle.weaken_groups.proofs.all_groups.Goals.{then-needs_group+in-Go, else-needs_group}
 

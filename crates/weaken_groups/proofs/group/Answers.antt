@@ -16,7 +16,7 @@ use Rattle.judge_propagate.proofs.Scopes.{allows_others}
 use Rattle.judge_checks.proofs.Verdicts.{stopped_within}
 use Rattle.weaken_groups.specs.Groups.{others, hints_of, Headed}
 use Rattle.weaken_groups.specs.declared.Onward.TheVariants.{Go}
-use Rattle.weaken_groups.proofs.Groups.{not_headed, few_hints, unproved, proved}
+use Rattle.weaken_groups.proofs.Groups.{few_hints, unproved, proved}
 use Rattle.weaken_groups.proofs.group.Goals as goal
 
 pub decided-check-requires : goal.decided-check-requires

@@ -8,7 +8,6 @@ use lib.ListN.{length, get_or}
 use borrow.Author.Rules.{rules}
 use Rattle.rules.specs.Terms.{same}
 use Rattle.rules.specs.Frames.{number}
-use Rattle.rules.proofs.Lists.{not-true, not-false}
 use Rattle.lit.specs.Signs.{is_natural}
 use Rattle.lit.proofs.Signed.{said}
 use Rattle.weaken_groups.proofs.Groups.{group_missing, wrong_id, count_missing, negative_count, past_the_end, header_read}

@@ -1,10 +1,6 @@
 -- Each return cites the tests before it.
 use mathlib.Core.Path.{◌≡◌, sym, ◌∙◌, ap}
-use mathlib.Core.Bool.{true, not}
-use borrow.Author.Rules.{rules}
-use Rattle.rules.specs.Lists.{all_pass}
-use Rattle.rules.specs.Terms.{in_range}
-use Rattle.rules.proofs.Lists.{not-true, not-false}
+use mathlib.Core.Bool.{not}
 use Rattle.table.specs.Spelled.{Row, row_at, id_of, place_of}
 use Rattle.weaken_groups.proofs.Due.{not_irredundant, itself, unopposed, by_shared}
 use Rattle.weaken_groups.proofs.needs_group.Goals as goal

@@ -2,7 +2,6 @@
 use mathlib.Core.Path.{◌≡◌, sym, ◌∙◌, ap, ap₂}
 use mathlib.Core.List.{List}
 use Prim.Native.Nat.{◌+◌}
-use native.Mathlib.Omega.{arith}
 use lib.IntN.{ℤ}
 use lib.ListN.{length}
 use borrow.Author.Rules.{rules}
@@ -15,10 +14,9 @@ use Rattle.rules.specs.Answers.{◌then◌, need, flaw, unseen, free_words, grou
 use Rattle.rules.specs.declared.Fault.TheVariants.{NoWitness}
 use Rattle.rules.specs.declared.Check.{Check}
 use Rattle.rules.specs.declared.Check.TheVariants.{Passed}
-use Rattle.rules.proofs.Lists.{not-true, not-false}
 use Rattle.lit_clause.proofs.Faults.{flaw_in}
 use Rattle.table.specs.Spelled.{spelled}
-use Rattle.table.proofs.Readers.{readable, count_rows, free_words_is}
+use Rattle.table.proofs.Readers.{readable, free_words_is}
 use Rattle.judge_checks.specs.Located.{RowOf}
 use Rattle.judge_checks.proofs.Located.{found, missing, reads_it, has_it, ranged, lits_are}
 use Rattle.judge_checks.proofs.Order.{goes_on, stops, met, unmet}
