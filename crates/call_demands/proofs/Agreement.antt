@@ -12,8 +12,8 @@ use lib.Seq.{length-take-le}
 use Rattle.rules.specs.Terms.{State, Terms}
 use Rattle.rules.specs.Frames.{parse}
 use Rattle.rules.specs.Answers.{numbers, Handed, untouched, mended, Outcome, altered, check_open}
-use Rattle.rules.specs.declared.Check.{Check}
-use Rattle.rules.specs.declared.Check.TheVariants.{Passed, Failed}
+use Rattle.rules.specs.Results.{Check}
+use Rattle.std.specs.Prelude.{Ok, Err}
 use Rattle.rules.specs.declared.Fault.TheVariants.{NoState}
 use Rattle.rules.proofs.Lists.{by_cases}
 use Rattle.lit_sets.proofs.Assigned.{words_fixed}
@@ -211,8 +211,8 @@ pub opening_code : (vars : ℕ) (entries : List Entry) (pool : List ℤ) (r : Ca
 opening_code vars entries pool r o = ap (λ (x : Called). numbers x.answer) o.called ∙ by_check (check_open vars (length entries) (length pool))
   where
     by_check : (k : Check) → numbers (opened_with vars k).answer ≡ opening_numbers k
-    by_check Passed = refl
-    by_check (Failed e) = refl
+    by_check (Ok tt) = refl
+    by_check (Err e) = refl
 
 pub step_code : {entries : List Entry} {pool : List ℤ} {c : Carried} {frame : List ℤ} {model : List ℕ} {r : Called} {entries' : List Entry} {pool' : List ℤ}
     {model' : List ℕ} →

@@ -9,8 +9,8 @@ use lib.IntN.{ℤ}
 use lib.ListN.{take}
 use Rattle.rules.specs.Terms.{State}
 use Rattle.rules.specs.Answers.{opened}
-use Rattle.rules.specs.declared.Answer.{Answer}
-use Rattle.rules.specs.declared.Answer.TheVariants.{Accepted}
+use Rattle.rules.specs.Results.{Answer}
+use Rattle.std.specs.Prelude.{Ok, Err}
 use Rattle.rules.proofs.Lists.{by_cases}
 use Rattle.lent_entries.specs.Lent.{state_lent}
 use Rattle.lent_entries.specs.declared.Entry.{Entry}
@@ -86,7 +86,7 @@ module _ {vars n w : ℕ} where
   -- the bytes taken in all parts, whatever they are, and the end of input: what is written for them is the program's output for the whole input
   pub parts_are_the_program : {taken written : List ℕ} {entries : List Entry} {pool : List ℤ} {c : Carried} {r : Reader} {frame : List ℤ} →
       Parts vars n w taken written entries pool c r frame →
-      (out : List ℕ) (q : Ended) (out' : List ℕ) → Ending r out q out' → q.answer ≡ Accepted 0 →
+      (out : List ℕ) (q : Ended) (out' : List ℕ) → Ending r out q out' → q.answer ≡ Ok 0 →
       written ++ take q.written out' ≡ program (opened vars n w) taken
   parts_are_the_program {taken} {written} {r = r} {frame = frame} k out q out' e accepted =
       let a = at_parts k in
@@ -96,5 +96,5 @@ module _ {vars n w : ℕ} where
     where
       may : may_end r out ≡ true
       may =
-          by_cases (may_end r out) (λ t. t) (λ f. let d : ◌≡◌ {A = Answer} (ended_to (may_end r out)) (Accepted 0) = sym e.answered ∙ accepted in
+          by_cases (may_end r out) (λ t. t) (λ f. let d : ◌≡◌ {A = Answer} (ended_to (may_end r out)) (Ok 0) = sym e.answered ∙ accepted in
           let g = rw f at d in let z : ◌≡◌ {A = ℕ} 0 1 = cc in absurd (omega arith))

@@ -13,8 +13,8 @@ use Rattle.rules.specs.Terms.{State}
 use Rattle.rules.specs.Frames.{Frame, ADD, LEARN, FORGET, PROMOTE, DROP, WEAKEN, RESTORE, SAT, UNSAT, Parsed, malformed, framed, parse}
 use Rattle.rules.specs.Answers.{numbers, check, settled, outcome_parsed, outcome, opened, check_open, need, ◌then◌}
 use Rattle.rules.specs.Outcomes.{trues, model_of, Said, said, Marked, answers, expected_of, sixteen}
-use Rattle.rules.specs.declared.Check.{Check}
-use Rattle.rules.specs.declared.Check.TheVariants.{Passed, Failed}
+use Rattle.rules.specs.Results.{Check}
+use Rattle.std.specs.Prelude.{Ok, Err}
 use Rattle.rules.proofs.Lasting.{outcome_lasts}
 use Rattle.rules.proofs.Outcomes.{sixteen_marked_outcomes}
 use Rattle.step_answers.specs.Answered.{ModelWritten}
@@ -32,24 +32,24 @@ use Rattle.call_demands.specs.Marked.{shown, said_by, Replies, no_more, then_nex
 module _ (s : State) (wide : s.vars ≡ 2048) (model model' : List ℕ) where
   shown_settled : (f : Frame) (k : Check) → ModelWritten (settled s f k).handed model model' →
       shown (framed f) (settled s f k).answer model' ≡ model_of s.vars (settled s f k).handed
-  shown_settled (ADD i c) Passed w = refl
-  shown_settled (LEARN i c hints) Passed w = refl
-  shown_settled (FORGET i) Passed w = refl
-  shown_settled (PROMOTE i) Passed w = refl
-  shown_settled (DROP i hints) Passed w = refl
-  shown_settled (WEAKEN i v ws) Passed w = refl
-  shown_settled (RESTORE i) Passed w = refl
-  shown_settled (SAT assumed vs) Passed w = rw wide (ap (λ α. some (trues α 2048 [])) w)
-  shown_settled (UNSAT assumed hints) Passed w = refl
-  shown_settled (ADD i c) (Failed e) w = refl
-  shown_settled (LEARN i c hints) (Failed e) w = refl
-  shown_settled (FORGET i) (Failed e) w = refl
-  shown_settled (PROMOTE i) (Failed e) w = refl
-  shown_settled (DROP i hints) (Failed e) w = refl
-  shown_settled (WEAKEN i v ws) (Failed e) w = refl
-  shown_settled (RESTORE i) (Failed e) w = refl
-  shown_settled (SAT assumed vs) (Failed e) w = refl
-  shown_settled (UNSAT assumed hints) (Failed e) w = refl
+  shown_settled (ADD i c) (Ok tt) w = refl
+  shown_settled (LEARN i c hints) (Ok tt) w = refl
+  shown_settled (FORGET i) (Ok tt) w = refl
+  shown_settled (PROMOTE i) (Ok tt) w = refl
+  shown_settled (DROP i hints) (Ok tt) w = refl
+  shown_settled (WEAKEN i v ws) (Ok tt) w = refl
+  shown_settled (RESTORE i) (Ok tt) w = refl
+  shown_settled (SAT assumed vs) (Ok tt) w = rw wide (ap (λ α. some (trues α 2048 [])) w)
+  shown_settled (UNSAT assumed hints) (Ok tt) w = refl
+  shown_settled (ADD i c) (Err e) w = refl
+  shown_settled (LEARN i c hints) (Err e) w = refl
+  shown_settled (FORGET i) (Err e) w = refl
+  shown_settled (PROMOTE i) (Err e) w = refl
+  shown_settled (DROP i hints) (Err e) w = refl
+  shown_settled (WEAKEN i v ws) (Err e) w = refl
+  shown_settled (RESTORE i) (Err e) w = refl
+  shown_settled (SAT assumed vs) (Err e) w = refl
+  shown_settled (UNSAT assumed hints) (Err e) w = refl
 
   shown_parsed : (p : Parsed) → ModelWritten (outcome_parsed s p).handed model model' →
       shown p (outcome_parsed s p).answer model' ≡ model_of s.vars (outcome_parsed s p).handed
@@ -95,7 +95,7 @@ each_of : {A B : Type 0} (f g : A → B) (xs : List A) → map f xs ≡ map g xs
 each_of f g [] e x m = absurd (Memᴰ.not-nil m)
 each_of f g (y ∷ xs) e x m = ⊎_elim (λ q. let h : f y ≡ g y = cc in rw q h) (λ k. each_of f g xs (cc) x k) (Memᴰ.cases_cons m)
 
-opening_passes : check_open 2048 1024 8192 ≡ Passed
+opening_passes : check_open 2048 1024 8192 ≡ Ok tt
 unfolding check_open need ◌then◌
 opening_passes = refl
 
@@ -104,7 +104,7 @@ pub sixteen_marked_calls : (m : Marked) → Memᴰ m sixteen → (entries : List
     (r : Called) → Opening 2048 entries pool r → (model : List ℕ) → length model ≡ 32 → (heard : List Said) →
     Replies entries pool r.carried model (m.before ++ m.frames) heard → (numbers r.answer ≡ (0, 0)) × (heard ≡ expected_of m)
 sixteen_marked_calls m k entries pool n w r o model many heard t =
-    let accepted : check_open 2048 (length entries) (length pool) ≡ Passed = rw (n, w) opening_passes in
+    let accepted : check_open 2048 (length entries) (length pool) ≡ Ok tt = rw (n, w) opening_passes in
     let s = opened 2048 (length entries) (length pool) in
     let as_said : heard ≡ answers m = replied t s refl many (o.state accepted) ∙ rw (n, w) refl in
     let opens : numbers r.answer ≡ (0, 0) = ap (λ (x : Called). numbers x.answer) (o.called ∙ ap (opened_with 2048) accepted) in

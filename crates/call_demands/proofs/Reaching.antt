@@ -12,10 +12,9 @@ use Rattle.rules.specs.Terms.{State}
 use Rattle.rules.specs.Frames.{parse}
 use Rattle.rules.specs.Answers.{outcome, opened}
 use Rattle.rules.specs.Histories.{History, step, steps, added_by, Reached}
-use Rattle.rules.specs.declared.Answer.{Answer}
-use Rattle.rules.specs.declared.Answer.TheVariants.{Accepted}
-use Rattle.rules.specs.declared.Check.{Check}
-use Rattle.rules.specs.declared.Check.TheVariants.{Passed, Failed}
+use Rattle.rules.specs.Results.{Answer}
+use Rattle.std.specs.Prelude.{Ok, Err}
+use Rattle.rules.specs.Results.{Check}
 use Rattle.rules.specs.declared.Fault.TheVariants.{NoState}
 use Rattle.rules.proofs.Lists.{by_cases}
 use Rattle.rules.proofs.Reaching.{reached_one}
@@ -44,15 +43,15 @@ pub record HistoryOf (entries : List Entry) (pool : List ℤ) (c : Carried) (add
 
 -- ---- open
 
-passed : (vars : ℕ) (k : Check) → (opened_with vars k).answer ≡ Accepted 0 → k ≡ Passed
-passed vars Passed e = refl
-passed vars (Failed f) e = let z : ◌≡◌ {A = ℕ} 0 1 = cc in absurd (omega arith)
+passed : (vars : ℕ) (k : Check) → (opened_with vars k).answer ≡ Ok 0 → k ≡ Ok tt
+passed vars (Ok tt) e = refl
+passed vars (Err f) e = let z : ◌≡◌ {A = ℕ} 0 1 = cc in absurd (omega arith)
 
-pub opened_lent : (vars : ℕ) (entries : List Entry) (pool : List ℤ) (r : Called) → Opening vars entries pool r → r.answer ≡ Accepted 0 →
+pub opened_lent : (vars : ℕ) (entries : List Entry) (pool : List ℤ) (r : Called) → Opening vars entries pool r → r.answer ≡ Ok 0 →
     state_lent entries pool r.carried ≡ some (opened vars (length entries) (length pool))
 opened_lent vars entries pool r o e = o.state (passed vars _ (sym (ap (λ (x : Called). x.answer) o.called) ∙ e))
 
-opening : (vars : ℕ) (entries : List Entry) (pool : List ℤ) (r : Called) → Opening vars entries pool r → r.answer ≡ Accepted 0 →
+opening : (vars : ℕ) (entries : List Entry) (pool : List ℤ) (r : Called) → Opening vars entries pool r → r.answer ≡ Ok 0 →
     HistoryOf entries pool r.carried []
 unfolding steps
 opening vars entries pool r o e =

@@ -11,8 +11,8 @@ use borrow.Author.Tests.{eq-eqb}
 use Rattle.rules.specs.Lists.{all_pass}
 use Rattle.rules.specs.Terms.{State}
 use Rattle.rules.specs.Answers.{outcome, opened}
-use Rattle.rules.specs.declared.Answer.{Answer}
-use Rattle.rules.specs.declared.Answer.TheVariants.{Accepted}
+use Rattle.rules.specs.Results.{Answer}
+use Rattle.std.specs.Prelude.{Ok, Err}
 use Rattle.dimacs.specs.Reading.{sound, Cnf, read_text}
 use Rattle.dimacs.specs.Frames.{frames_of}
 use Rattle.dimacs.specs.Adding.{unless_full, answers_from}
@@ -39,7 +39,7 @@ calls_answer {entries} {pool} {c} (then_call frame model r entries' pool' model'
 
 -- opened with at least the V that the text declares
 pub text_calls_answered : (text : List ℕ) {x : Cnf} → read_text text ≡ sound x → (vars : ℕ) → x.vars ≤ vars →
-    (entries : List Entry) (pool : List ℤ) (r : Called) → Opening vars entries pool r → r.answer ≡ Accepted 0 →
+    (entries : List Entry) (pool : List ℤ) (r : Called) → Opening vars entries pool r → r.answer ≡ Ok 0 →
     {answers : List Answer} → StepCalls entries pool r.carried (frames_of (read_text text)) answers → all_pass unless_full answers ≡ true
 text_calls_answered text e vars h entries pool r o a calls =
     let same = calls_answer calls (opened vars (length entries) (length pool)) (opened_lent vars entries pool r o a) in

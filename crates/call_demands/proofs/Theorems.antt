@@ -17,8 +17,8 @@ use Rattle.rules.specs.Frames.{Frame, SAT, UNSAT, framed, parse, offered}
 use Rattle.rules.specs.Answers.{mended, outcome}
 use Rattle.rules.specs.Histories.{History, models, Models, Assumes, Unwitnessed, Unopposed, Accepts, Answered, SameLiterals, SameClauses}
 use Rattle.rules.specs.Outcomes.{trues}
-use Rattle.rules.specs.declared.Answer.{Answer}
-use Rattle.rules.specs.declared.Answer.TheVariants.{Accepted, Refused}
+use Rattle.rules.specs.Results.{Answer}
+use Rattle.std.specs.Prelude.{Ok, Err}
 use Rattle.rules.specs.declared.Fault.TheVariants.{NoState}
 use Rattle.rules.proofs.Lists.{by_cases}
 use Rattle.rules.proofs.Theorems as paper
@@ -55,7 +55,7 @@ module _ {entries : List Entry} {pool : List ℤ} {c : Carried} {added : List (L
   -- by `step`, but for a model buffer of another size than 32 words
   pub never_code_1 : (frame : List ℤ) (model : List ℕ) (r : Called) (entries' : List Entry) (pool' : List ℤ) (model' : List ℕ) →
       Stepping entries pool c frame model r entries' pool' model' →
-      length model ≡ 32 → r.answer ≡ Refused NoState → ⊥
+      length model ≡ 32 → r.answer ≡ Err NoState → ⊥
   never_code_1 frame model r entries' pool' model' s n e =
       never_no_state h.history.state frame
       (sym (s.answered ∙ ap answer_to (said_paper h frame model r entries' pool' model' s (eq-eqb (length model) 32 n))) ∙ e)
@@ -64,7 +64,7 @@ module _ {entries : List Entry} {pool : List ℤ} {c : Carried} {added : List (L
   pub given_never_code_1 : (r : Reader) (frame : List ℤ) (part out : List ℕ) (q : Given) (entries' : List Entry) (pool' : List ℤ) (frame' : List ℤ)
       (out' : List ℕ) →
       Giving entries pool c r frame part out q entries' pool' frame' out' → r.digits ≤ 32768 → 4096 ≤ length frame → 16401 ≤ length out →
-      q.answer ≡ Accepted 0
+      q.answer ≡ Ok 0
   given_never_code_1 r frame part out q entries' pool' frame' out' g few wide room =
       let a = le-leb r.digits 32768 few in
       let b = le-leb 4096 (length frame) wide in
@@ -90,7 +90,7 @@ module _ {entries : List Entry} {pool : List ℤ} {c : Carried} {added : List (L
 
   module _ (frame : List ℤ) (model : List ℕ) (r : Called) (entries' : List Entry) (pool' : List ℤ) (model' : List ℕ)
       (s : Stepping entries pool c frame model r entries' pool' model')
-      (n : ℕ) (e : r.answer ≡ Accepted n) where
+      (n : ℕ) (e : r.answer ≡ Ok n) where
     with_32 : eqb (length model) 32 ≡ true
     with_32 =
         by_cases (eqb (length model) 32) (λ b. b) (λ b. let a = sym (s.answered ∙ ap answer_to (said_none h frame model r entries' pool' model' s b)) ∙ e in
@@ -120,7 +120,7 @@ mended_by g {added} {st} {assumed} {vs} {β} {γ} a s w m = record {
 
 -- a line that was accepted was accepted in the history that it met
 line_accepts : {added : List (List ℤ)} {st : State} {ws : List ℤ} {answer : Answer} {printed : List ℕ} (l : LineHeard added st ws answer printed) (n : ℕ) →
-    answer ≡ Accepted n →
+    answer ≡ Ok n →
     (f : Frame) → parse ws ≡ framed f → Accepts (line_history l).0.state ws f
 line_accepts {ws = ws} l n e f p = record { parsed = p; changed = n; accepted = ap (λ s. (outcome s ws).answer) (line_history l).2 ∙ sym l.answered ∙ e }
 

@@ -5,7 +5,7 @@ use Rattle.std.proofs.Math.Option.{Option, none, some}
 use Rattle.rules.specs.Terms.{State}
 use Rattle.rules.specs.Frames.{parse}
 use Rattle.rules.specs.Histories.{added_by}
-use Rattle.rules.specs.declared.Answer.TheVariants.{Accepted}
+use Rattle.std.specs.Prelude.{Ok, Err}
 use Rattle.lent_entries.specs.declared.Entry.{Entry}
 use Rattle.lent.specs.declared.Carried.{Carried}
 use Rattle.lent.specs.declared.Called.{Called}
@@ -31,7 +31,7 @@ added_given (some s) fs cs = added_after s fs cs
 -- what is lent and carried after a chain of calls, and the clauses that were ever added in it. Every outcome that the promises allow may be a link, with any
 -- reader, buffers and bytes.
 pub data Chain : List Entry → List ℤ → Carried → List (List ℤ) → Type 0 where
-  open_first : (vars : ℕ) (entries : List Entry) (pool : List ℤ) (r : Called) → Opening vars entries pool r → r.answer ≡ Accepted 0 →
+  open_first : (vars : ℕ) (entries : List Entry) (pool : List ℤ) (r : Called) → Opening vars entries pool r → r.answer ≡ Ok 0 →
       Chain entries pool r.carried []
   then_step : {entries : List Entry} {pool : List ℤ} {c : Carried} {added : List (List ℤ)} → Chain entries pool c added →
       (frame : List ℤ) (model : List ℕ) (r : Called) (entries' : List Entry) (pool' : List ℤ) (model' : List ℕ) →

@@ -6,8 +6,8 @@ use Rattle.rules.specs.Terms.{is_variable, Assignment, State}
 use Rattle.rules.specs.Frames.{SAT, UNSAT, framed, parse, offered}
 use Rattle.rules.specs.Answers.{outcome}
 use Rattle.rules.specs.Histories.{Models, Assumes, Unwitnessed}
-use Rattle.rules.specs.declared.Answer.{Answer}
-use Rattle.rules.specs.declared.Answer.TheVariants.{Accepted}
+use Rattle.rules.specs.Results.{Answer}
+use Rattle.std.specs.Prelude.{Ok, Err}
 use Rattle.lit_sets.specs.Words.{assigned}
 use Rattle.lent_entries.specs.Lent.{state_lent}
 use Rattle.lent_entries.specs.declared.Entry.{Entry}
@@ -63,10 +63,10 @@ pub data SatHeard : List (List ℤ) → State → List ℤ → List ℤ → Assi
   sat_step : {entries : List Entry} {pool : List ℤ} {c : Carried} {added : List (List ℤ)} → Chain entries pool c added →
       (frame : List ℤ) (model : List ℕ) (r : Called) (entries' : List Entry) (pool' : List ℤ) (model' : List ℕ) →
       Stepping entries pool c frame model r entries' pool' model' →
-      (st : State) → state_lent entries pool c ≡ some st → (n : ℕ) → r.answer ≡ Accepted n → (assumed vs : List ℤ) → parse frame ≡ framed (SAT assumed vs) →
+      (st : State) → state_lent entries pool c ≡ some st → (n : ℕ) → r.answer ≡ Ok n → (assumed vs : List ℤ) → parse frame ≡ framed (SAT assumed vs) →
       SatHeard added st assumed vs (assigned model')
   sat_line : {added : List (List ℤ)} {st : State} {ws : List ℤ} {answer : Answer} {printed : List ℕ} → LineHeard added st ws answer printed → (n : ℕ) →
-      answer ≡ Accepted n →
+      answer ≡ Ok n →
       (assumed vs : List ℤ) → parse ws ≡ framed (SAT assumed vs) → SatHeard added st assumed vs (true_of printed)
 
 -- UNSAT was accepted when these clauses had been added
@@ -74,9 +74,9 @@ pub data UnsatHeard : List (List ℤ) → List ℤ → Type 0 where
   unsat_step : {entries : List Entry} {pool : List ℤ} {c : Carried} {added : List (List ℤ)} → Chain entries pool c added →
       (frame : List ℤ) (model : List ℕ) (r : Called) (entries' : List Entry) (pool' : List ℤ) (model' : List ℕ) →
       Stepping entries pool c frame model r entries' pool' model' →
-      (n : ℕ) → r.answer ≡ Accepted n → (assumed hints : List ℤ) → parse frame ≡ framed (UNSAT assumed hints) → UnsatHeard added assumed
+      (n : ℕ) → r.answer ≡ Ok n → (assumed hints : List ℤ) → parse frame ≡ framed (UNSAT assumed hints) → UnsatHeard added assumed
   unsat_line : {added : List (List ℤ)} {st : State} {ws : List ℤ} {answer : Answer} {printed : List ℕ} → LineHeard added st ws answer printed → (n : ℕ) →
-      answer ≡ Accepted n →
+      answer ≡ Ok n →
       (assumed hints : List ℤ) → parse ws ≡ framed (UNSAT assumed hints) → UnsatHeard added assumed
 
 -- what an accepted SAT hands out: a model of every clause ever added and of the assumptions, which differs from the offered one only in variables of stacked

@@ -4,8 +4,8 @@ use Rattle.std.proofs.Math.Option.{Option, none, some}
 use Rattle.rules.specs.Frames.{ADD, LEARN, FORGET, PROMOTE, DROP, WEAKEN, RESTORE, SAT, UNSAT, Parsed, malformed, framed, parse}
 use Rattle.rules.specs.Answers.{numbers}
 use Rattle.rules.specs.Outcomes.{trues, Said}
-use Rattle.rules.specs.declared.Answer.{Answer}
-use Rattle.rules.specs.declared.Answer.TheVariants.{Accepted, Refused}
+use Rattle.rules.specs.Results.{Answer}
+use Rattle.std.specs.Prelude.{Ok, Err}
 use Rattle.lit_sets.specs.Words.{assigned}
 use Rattle.lent_entries.specs.declared.Entry.{Entry}
 use Rattle.lent.specs.declared.Carried.{Carried}
@@ -22,8 +22,8 @@ shown (framed (PROMOTE i)) a model = none
 shown (framed (DROP i hints)) a model = none
 shown (framed (WEAKEN i w ws)) a model = none
 shown (framed (RESTORE i)) a model = none
-shown (framed (SAT assumed vs)) (Accepted n) model = some (trues (assigned model) 2048 [])
-shown (framed (SAT assumed vs)) (Refused e) model = none
+shown (framed (SAT assumed vs)) (Ok n) model = some (trues (assigned model) 2048 [])
+shown (framed (SAT assumed vs)) (Err e) model = none
 shown (framed (UNSAT assumed hints)) a model = none
 
 abbrev pub said_by : List ℤ → Answer → List ℕ → Said

@@ -24,9 +24,10 @@ use Rattle.line_read.specs.Parts.{largest_reply}
 use Rattle.line_read.specs.declared.Reader.{Reader}
 use Rattle.call_give.specs.Giving.{is_line, met, given_to, give_refused, GivenFrom, Giving}
 use Rattle.call_give.specs.Running.{give_sized, give_left, RanFrom, RanOn, GiveRun}
-use Rattle.call_give.specs.declared.RanPart.{RanPart}
+use Rattle.lent_entries.specs.declared.Ran.{Ran}
+use Rattle.call_give.specs.declared.Given.{Given}
 
-module _ (entries : List Entry) (pool : List ℤ) (c : Carried) (r : Reader) (frame : List ℤ) (part out : List ℕ) (q : RanPart)
+module _ (entries : List Entry) (pool : List ℤ) (c : Carried) (r : Reader) (frame : List ℤ) (part out : List ℕ) (q : Ran Given)
     (rows' : List Row) (entries' : List Entry) (pool' : List ℤ) (frame' : List ℤ) (out' : List ℕ)
     (ran : GiveRun (length entries) (taken entries c.count) pool c r frame part out q rows' pool' frame' out')
     (put : entries' ≡ over entries (map entry_of (take q.count rows'))) (put_rows : map row_of entries' ≡ over (map row_of entries) (take q.count rows'))
@@ -36,8 +37,8 @@ module _ (entries : List Entry) (pool : List ℤ) (c : Carried) (r : Reader) (fr
   refused : (q ≡ give_left c r) × (pool' ≡ pool) × (frame' ≡ frame) × (out' ≡ out) → (q.given ≡ give_refused c r) × (entries' ≡ entries) × (pool' ≡ pool)
       × (frame' ≡ frame) × (out' ≡ out)
   refused l = (
-    ap (λ (x : RanPart). x.given) l.0,
-    put ∙ ap (λ n. over entries (map entry_of (take n rows'))) (ap (λ (x : RanPart). x.count) l.0),
+    ap (λ (x : Ran Given). x.given) l.0,
+    put ∙ ap (λ n. over entries (map entry_of (take n rows'))) (ap (λ (x : Ran Given). x.count) l.0),
     l.1,
     l.2,
     l.3,

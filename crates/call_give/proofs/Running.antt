@@ -16,7 +16,7 @@ use Rattle.lent.specs.Stored.{PutsBack}
 use Rattle.lent.specs.declared.Carried.{Carried}
 use Rattle.lent.proofs.Stored.{stored_back, nothing_back}
 use Rattle.lent_load.specs.Loads.{Loads}
-use Rattle.lent_load.specs.declared.Loaded.TheVariants.{Working}
+use Rattle.std.specs.Prelude.{Some}
 use Rattle.table_room.specs.Room.{Squeezed}
 use Rattle.line_close.specs.Replies.{Altering}
 use Rattle.line_read.specs.Machine.{line_of, Session, session_of}
@@ -42,7 +42,7 @@ module _ (n : ℕ) (rows : List Row) (pool : List ℤ) (c : Carried) (r : Reader
   }
 
   -- a state, loaded and fed
-  module _ {t : Table} {rows₁ : List Row} (loaded : Loads c own pool (Working t) rows₁) (f : Fed) {rows₂ : List Row} {pool₂ : List ℤ} {stack₂ : List ℕ}
+  module _ {t : Table} {rows₁ : List Row} (loaded : Loads c own pool (Some t) rows₁) (f : Fed) {rows₂ : List Row} {pool₂ : List ℤ} {stack₂ : List ℕ}
       (frame₂ : List ℤ) {out₂ : List ℕ}
       (fed : lines.LinesFed part 0 f.from (session_of r frame (working.spelled t rows₁ pool c.stack) out 0)
       (session_of f.reader frame₂ (working.spelled f.table rows₂ pool₂ stack₂) out₂ f.at) out out₂ f.at)

@@ -9,7 +9,7 @@ use lib.IntN.{ℤ}
 use lib.ListN.{length}
 use borrow.Author.Tests.{leb-true, le-leb, lt-leb}
 use Rattle.rules.specs.Answers.{lent}
-use Rattle.rules.specs.declared.Answer.TheVariants.{Accepted, Refused}
+use Rattle.std.specs.Prelude.{Ok, Err}
 use Rattle.rules.specs.declared.Fault.TheVariants.{NoState}
 use Rattle.rules.proofs.Lists.{and_left, and_right, and_both, true-false, by_cases}
 use Rattle.table.specs.Spelled.{Row}
@@ -21,7 +21,8 @@ use Rattle.line_read.specs.Parts.{largest_reply}
 use Rattle.line_read.specs.declared.Reader.{Reader}
 use Rattle.call_give.specs.Giving.{is_line, may_end, last_reply, Ending}
 use Rattle.call_give.specs.Running.{give_sized, give_left, Sized, RanOn, GiveRun}
-use Rattle.call_give.specs.declared.RanPart.{RanPart}
+use Rattle.lent_entries.specs.declared.Ran.{Ran}
+use Rattle.call_give.specs.declared.Given.{Given}
 
 -- ---- a part
 
@@ -41,7 +42,7 @@ module _ (n : ℕ) (pool : List ℤ) (r : Reader) (frame : List ℤ) (out : List
     pub run_refused : give_sized n pool r frame out ≡ false → GiveRun n rows pool c r frame part out (give_left c r) rows pool frame out
     run_refused f = record { bounded = (omega arith, omega arith); judged_so = λ t. true-false t f; refused = λ g. (refl, refl, refl, refl) }
 
-    pub run_judged : give_sized n pool r frame out ≡ true → {q : RanPart} {rows' : List Row} {pool' : List ℤ} {frame' : List ℤ} {out' : List ℕ} →
+    pub run_judged : give_sized n pool r frame out ≡ true → {q : Ran Given} {rows' : List Row} {pool' : List ℤ} {frame' : List ℤ} {out' : List ℕ} →
         length rows' ≡ 1280 →
         RanOn n rows pool c r frame part out q rows' pool' frame' out' → GiveRun n rows pool c r frame part out q rows' pool' frame' out'
     run_judged t l s = record { bounded = (s.bounded.0, omega (arith, s.bounded.1)); judged_so = λ g. s; refused = λ f. true-false t f }
@@ -49,7 +50,7 @@ module _ (n : ℕ) (pool : List ℤ) (r : Reader) (frame : List ℤ) (out : List
 -- ---- the end of input
 
 module _ (r : Reader) (out : List ℕ) where
-  pub ends_not : may_end r out ≡ false → Ending r out (record { answer = Refused NoState; written = 0 }) out
+  pub ends_not : may_end r out ≡ false → Ending r out (record { answer = Err NoState; written = 0 }) out
   ends_not f = record { answered = rw f; wrote = λ t. true-false t f; left = λ g. (refl, refl) }
 
   pub many_digits : 32768 < r.digits → may_end r out ≡ false
@@ -59,7 +60,7 @@ module _ (r : Reader) (out : List ℕ) where
   few_bytes h = by_cases (leb r.digits 32768) (λ e. rw (e, lt-leb last_reply (length out) h)) (λ e. rw e)
 
   pub ends : r.digits ≤ 32768 → last_reply ≤ length out → {out' : List ℕ} {k : ℕ} → Wrote out 0 (end_reply r.digits r.spoilt) out' k →
-      Ending r out (record { answer = Accepted 0; written = k }) out'
+      Ending r out (record { answer = Ok 0; written = k }) out'
   ends h l w =
       let t : may_end r out ≡ true = and_both (le-leb r.digits 32768 h) (le-leb last_reply (length out) l) in
       record { answered = rw t; wrote = λ g. w; left = λ f. true-false t f }

@@ -2,8 +2,8 @@
 use Rattle.std.specs.Prelude.{◌≡◌, Bool, true, false, cond, ◌&&◌, List, ℕ, leb, ℤ, length, take}
 use Rattle.std.proofs.Math.Option.{Option, none, some}
 use Rattle.rules.specs.Terms.{State}
-use Rattle.rules.specs.declared.Answer.{Answer}
-use Rattle.rules.specs.declared.Answer.TheVariants.{Accepted, Refused}
+use Rattle.rules.specs.Results.{Answer}
+use Rattle.std.specs.Prelude.{Ok, Err}
 use Rattle.rules.specs.declared.Fault.TheVariants.{NoState}
 use Rattle.lent_entries.specs.Lent.{state_lent}
 use Rattle.lent_entries.specs.declared.Entry.{Entry}
@@ -28,8 +28,8 @@ met entries pool c r frame out = cond (is_line r (length frame) && leb largest_r
 
 -- the call's own answer; the answers to lines stand in the out buffer
 abbrev pub given_to : Option State → Answer
-given_to (some s) = Accepted 0
-given_to none = Refused NoState
+given_to (some s) = Ok 0
+given_to none = Err NoState
 
 -- its code and detail
 abbrev pub given_numbers : Option State → ℕ × ℕ
@@ -37,7 +37,7 @@ given_numbers (some s) = (0, 0)
 given_numbers none = (1, 0)
 
 abbrev pub give_refused : Carried → Reader → Given
-give_refused c r = record { answer = Refused NoState; carried = c; reader = r; taken = 0; written = 0 }
+give_refused c r = record { answer = Err NoState; carried = c; reader = r; taken = 0; written = 0 }
 
 -- the part met s: its bytes are fed to the machine, as many as are taken, and what goes out spells the state after them
 pub record GivenFrom (s : State) (entries : List Entry) (pool : List ℤ) (c : Carried) (r : Reader) (frame : List ℤ) (part out : List ℕ) (q : Given)
@@ -66,7 +66,7 @@ abbrev pub may_end : Reader → List ℕ → Bool
 may_end r out = leb r.digits 32768 && leb last_reply (length out)
 
 abbrev pub ended_to : Bool → Answer
-ended_to may = cond may (Accepted 0) (Refused NoState)
+ended_to may = cond may (Ok 0) (Err NoState)
 
 -- what is written: an unclosed line that was begun is refused 2
 pub record Ending (r : Reader) (out : List ℕ) (q : Ended) (out' : List ℕ) : Type 0 where

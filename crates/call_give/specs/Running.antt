@@ -3,7 +3,7 @@ use Rattle.std.specs.Prelude.{◌≡◌, Bool, true, false, ◌&&◌, List, ℕ,
 use Rattle.std.proofs.Math.Option.{none, some}
 use Rattle.rules.specs.Terms.{State}
 use Rattle.rules.specs.Answers.{lent}
-use Rattle.rules.specs.declared.Answer.TheVariants.{Accepted}
+use Rattle.std.specs.Prelude.{Ok, Err}
 use Rattle.table.specs.Spelled.{Row}
 use Rattle.table.specs.declared.Table.{Table}
 use Rattle.lent.specs.State.{state_carried}
@@ -15,17 +15,18 @@ use Rattle.line_read.specs.Lent as lines
 use Rattle.line_read.specs.declared.Reader.{Reader}
 use Rattle.line_feed.specs.declared.Fed.{Fed}
 use Rattle.call_give.specs.Giving.{is_line, given_to, give_refused}
-use Rattle.call_give.specs.declared.RanPart.{RanPart}
+use Rattle.lent_entries.specs.declared.Ran.{Ran}
+use Rattle.call_give.specs.declared.Given.{Given}
 
 -- ---- what is handed back
 
-abbrev pub give_left : Carried → Reader → RanPart
+abbrev pub give_left : Carried → Reader → Ran Given
 give_left c r = record { given = give_refused c r; count = 0 }
 
-abbrev pub give_answered : Fed → Carried → ℕ → RanPart
-give_answered f c k = record { given = record { answer = Accepted 0; carried = c; reader = f.reader; taken = f.from; written = f.at }; count = k }
+abbrev pub give_answered : Fed → Carried → ℕ → Ran Given
+give_answered f c k = record { given = record { answer = Ok 0; carried = c; reader = f.reader; taken = f.from; written = f.at }; count = k }
 
-abbrev pub give_stored : Fed → Table → List ℕ → RanPart
+abbrev pub give_stored : Fed → Table → List ℕ → Ran Given
 give_stored f t stack = give_answered f (carried_of t stack) t.count
 
 -- ---- the part
@@ -37,14 +38,14 @@ pub record Sized (n : ℕ) (pool : List ℤ) (r : Reader) (frame : List ℤ) : T
   pub frame_least : 4096 ≤ length frame
 
 -- the rows spelled s
-pub record RanFrom (s : State) (n : ℕ) (pool : List ℤ) (c : Carried) (r : Reader) (frame : List ℤ) (part out : List ℕ) (q : RanPart) (rows' : List Row)
+pub record RanFrom (s : State) (n : ℕ) (pool : List ℤ) (c : Carried) (r : Reader) (frame : List ℤ) (part out : List ℕ) (q : Ran Given) (rows' : List Row)
     (pool' : List ℤ) (frame' : List ℤ) (out' : List ℕ) : Type 0 where
   pub after : State
   pub fed : lines.LinesFed part 0 q.given.taken (session_of r frame s out 0) (session_of q.given.reader frame' after out' q.given.written) out out'
       q.given.written
   pub back : PutsBack (some_alters s (closes (line_of r frame) (take q.given.taken part))) n c pool s q.count q.given.carried rows' pool' after
 
-pub record RanOn (n : ℕ) (rows : List Row) (pool : List ℤ) (c : Carried) (r : Reader) (frame : List ℤ) (part out : List ℕ) (q : RanPart) (rows' : List Row)
+pub record RanOn (n : ℕ) (rows : List Row) (pool : List ℤ) (c : Carried) (r : Reader) (frame : List ℤ) (part out : List ℕ) (q : Ran Given) (rows' : List Row)
     (pool' : List ℤ) (frame' : List ℤ) (out' : List ℕ) : Type 0 where
   pub answered : q.given.answer ≡ given_to (state_carried c (take n rows) pool)
   pub bounded : (q.count ≤ n) × (q.count ≤ length rows')
@@ -55,7 +56,7 @@ pub record RanOn (n : ℕ) (rows : List Row) (pool : List ℤ) (c : Carried) (r 
 abbrev pub give_sized : ℕ → List ℤ → Reader → List ℤ → List ℕ → Bool
 give_sized n pool r frame out = lent n (length pool) && (is_line r (length frame) && leb largest_reply (length out))
 
-pub record GiveRun (n : ℕ) (rows : List Row) (pool : List ℤ) (c : Carried) (r : Reader) (frame : List ℤ) (part out : List ℕ) (q : RanPart) (rows' : List Row)
+pub record GiveRun (n : ℕ) (rows : List Row) (pool : List ℤ) (c : Carried) (r : Reader) (frame : List ℤ) (part out : List ℕ) (q : Ran Given) (rows' : List Row)
     (pool' : List ℤ) (frame' : List ℤ) (out' : List ℕ) : Type 0 where
   pub bounded : (q.count ≤ n) × (q.count ≤ 1280)
   pub judged_so : give_sized n pool r frame out ≡ true → RanOn n rows pool c r frame part out q rows' pool' frame' out'

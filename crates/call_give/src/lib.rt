@@ -9,8 +9,7 @@ ghost use Rattle.call_give.specs.Giving.{Ending, Giving, is_line};
 ghost use Rattle.call_give.specs.Running.{RanOn, GiveRun, Sized, give_answered, give_left, give_stored};
 
 use lent::Carried;
-use lent_entries::Entry;
-use lent_load::Loaded;
+use lent_entries::{Entry, Ran};
 use line_feed::Fed;
 use line_read::Reader;
 use rules::{Answer, Fault};
@@ -26,22 +25,15 @@ pub struct Given {
     pub written: usize,
 }
 
-// The same, and how many rows are to be put back.
-#[derive(Clone, Copy)]
-struct RanPart {
-    pub given: Given,
-    pub count: usize,
-}
-
 // ---- what is handed back
 
 // Code 1: nothing is taken, written or put back.
-fn left(c: Carried, r: Reader) -> RanPart
+fn left(c: Carried, r: Reader) -> Ran<Given>
     ensures { result ≡ give_left c r }
 {
-    RanPart {
+    Ran {
         given: Given {
-            answer: Answer::Refused(Fault::NoState),
+            answer: Err(Fault::NoState),
             carried: c,
             reader: r,
             taken: 0,
@@ -52,13 +44,13 @@ fn left(c: Carried, r: Reader) -> RanPart
 }
 
 // Code 0: what is carried, and how many rows go back.
-fn answered(part: Fed, c: Carried, count: usize) -> RanPart
+fn answered(part: Fed, c: Carried, count: usize) -> Ran<Given>
     ensures { result ≡ give_answered part c count }
 {
     let reader = part.reader;
-    RanPart {
+    Ran {
         given: Given {
-            answer: Answer::Accepted(0),
+            answer: Ok(0),
             carried: c,
             reader,
             taken: part.from,
@@ -69,7 +61,7 @@ fn answered(part: Fed, c: Carried, count: usize) -> RanPart
 }
 
 // The rows held go back, and what is carried is new.
-fn stored(part: Fed, t: Table, stack: [u32; 1024]) -> RanPart
+fn stored(part: Fed, t: Table, stack: [u32; 1024]) -> Ran<Given>
     ensures { result ≡ give_stored part t stack }
 {
     answered(part, lent::carry(t, stack), t.count as usize)
@@ -87,12 +79,12 @@ fn run(
     frame: &mut [i32],
     part: &[u8],
     out: &mut [u8],
-) -> RanPart
+) -> Ran<Given>
     requires { (length rows.old ≡ 1280) × Sized n pool.old r frame.old }
     ensures { RanOn n rows.old pool.old c r frame.old part.now out.old result rows.new
         pool.new frame.new out.new }
 {
-    let Loaded::Working(t) = lent_load::load(&mut rows[..n], pool, c) else {
+    let Some(t) = lent_load::load(&mut rows[..n], pool, c) else {
         return left(c, r);
     };
     let mut stack = c.stack;
@@ -138,7 +130,7 @@ fn run_lent(
     frame: &mut [i32],
     part: &[u8],
     out: &mut [u8],
-) -> RanPart
+) -> Ran<Given>
     requires { length rows.old ≡ 1280 }
     ensures { GiveRun n rows.old pool.old c r frame.old part.now out.old result rows.new
         pool.new frame.new out.new }
@@ -192,19 +184,19 @@ pub fn end(reader: Reader, out: &mut [u8]) -> Ended
 {
     if 32768 < reader.digits {
         return Ended {
-            answer: Answer::Refused(Fault::NoState),
+            answer: Err(Fault::NoState),
             written: 0,
         };
     }
     if out.len() < 17 {
         return Ended {
-            answer: Answer::Refused(Fault::NoState),
+            answer: Err(Fault::NoState),
             written: 0,
         };
     }
     let written = line_reply::finish(reader, out, 0);
     Ended {
-        answer: Answer::Accepted(0),
+        answer: Ok(0),
         written,
     }
 }

@@ -10,7 +10,7 @@ use lib.ListN.{length, replicate}
 use borrow.Author.Tests.{lt-ltb, le-leb}
 use Rattle.rules.specs.Terms.{State, in_range}
 use Rattle.rules.specs.Answers.{◌then◌, need, lent, check_open}
-use Rattle.rules.specs.declared.Check.TheVariants.{Passed}
+use Rattle.std.specs.Prelude.{Ok, Err}
 use Rattle.rules.proofs.Lists.{all_nil}
 use Rattle.lit_sets.proofs.Sets.{zeros_empty}
 use Rattle.table.specs.Spelled.{Row, spelled, Fit}
@@ -30,19 +30,16 @@ use Rattle.lrat.proofs.Runs.{run_is_the_proof}
 use Rattle.lrat.proofs.Whole.{filled_size}
 use Rattle.lrat_feed.specs.Feeding.{start_reader, session_of, Feedable}
 use Rattle.lrat_fill.specs.Filling.{Fills}
-use Rattle.lrat_fill.specs.declared.FilledText.TheVariants.{Faulty, Full, Working}
+use Rattle.lrat_fill.specs.declared.Unfilled.TheVariants.{Faulty, Full}
 use Rattle.call_lrat.specs.Checks.{called_empty, ChecksLent, Checks}
 use Rattle.call_lrat.specs.declared.LratCalled.{LratCalled}
 
 -- ---- the proof
 
-abbrev zeros : List ℕ
-zeros = replicate 32 0
-
 -- nothing of it is read, and no literal is false
-pub start_run : {r : ProofReader} → r ≡ start_reader → (lits : List ℤ) (s : State) (proof : List ℕ) →
-    run (session_of r lits zeros zeros s) proof ≡ run (started s) proof
-start_run e lits s proof = let z = zeros_empty in rw (e, z) refl
+pub start_run : {r : ProofReader} {plus minus : List ℕ} → r ≡ start_reader → (plus ≡ replicate 32 0) × (minus ≡ replicate 32 0) → (lits : List ℤ) (s : State)
+    (proof : List ℕ) → run (session_of r lits plus minus s) proof ≡ run (started s) proof
+start_run e z lits s proof = let n = zeros_empty in rw (e, z.0, z.1, n) refl
 
 pub start_feedable : {t : Table} {rows : List Row} {pool : List ℤ} {stack : List ℕ} {r : ProofReader} {lits : List ℤ} → r ≡ start_reader → length lits ≡ 256 →
     Fit t rows pool stack → Feedable t rows pool stack r lits
@@ -77,7 +74,7 @@ module _ (n : ℕ) (pool : List ℤ) (c : Carried) (cnf proof : List ℕ) where
     }
 
     module _ {x : Cnf} (read : read_text cnf ≡ sound x) where
-      opens_so : check_open x.vars n (length pool) ≡ Passed
+      opens_so : check_open x.vars n (length pool) ≡ Ok tt
       unfolding check_open need ◌then◌
       opens_so =
           let b = text_body cnf read in
@@ -97,17 +94,17 @@ module _ (n : ℕ) (pool : List ℤ) (c : Carried) (cnf proof : List ℕ) where
 
     -- what filling the tables came to
     module _ (rows' : List Row) (pool' : List ℤ) (stack : List ℕ) where
-      pub faulty_checked : (rd : Read Cnf) → read_text cnf ≡ rd → (f : TextFault) → Fills n rd (Faulty f) rows' pool pool' stack →
+      pub faulty_checked : (rd : Read Cnf) → read_text cnf ≡ rd → (f : TextFault) → Fills n rd (Err (Faulty f)) rows' pool pool' stack →
           Result (record { answer = answer (fault_numbers f).0 (fault_numbers f).1; carried = c }) pool'
       faulty_checked (faulty g) e f k = let same : f ≡ g = cc in faulty_called {f = f} (rw same e) k.1
       faulty_checked (sound x) e f k = absurd k.fills
 
-      pub full_checked : (rd : Read Cnf) → read_text cnf ≡ rd → (code vars : ℕ) → Fills n rd (Full code vars) rows' pool pool' stack →
+      pub full_checked : (rd : Read Cnf) → read_text cnf ≡ rd → (code vars : ℕ) → Fills n rd (Err (Full code vars)) rows' pool pool' stack →
           Result (called_empty (answer code 0) vars n (length pool')) pool'
       full_checked (faulty g) e code vars k = let z : ◌≡◌ {A = ℕ} 0 1 = cc in absurd (omega arith)
       full_checked (sound x) e code vars k = let v = k.fills.1 in rw v (emptied_called e (sym (rw (t, e, k.fills.0) refl)) k.kept)
 
-      pub proof_checked : (rd : Read Cnf) → read_text cnf ≡ rd → (w : Table) → Fills n rd (Working w) rows' pool pool' stack → {a : LratAnswer} →
+      pub proof_checked : (rd : Read Cnf) → read_text cnf ≡ rd → (w : Table) → Fills n rd (Ok w) rows' pool pool' stack → {a : LratAnswer} →
           a ≡ check_proof (spelled w rows' pool' stack) proof → {pool'' : List ℤ} → length pool'' ≡ length pool' →
           Result (called_empty a w.vars n (length pool'')) pool''
       proof_checked (faulty g) e w k q l = let z : ◌≡◌ {A = ℕ} 0 1 = cc in absurd (omega arith)
@@ -117,7 +114,7 @@ module _ (n : ℕ) (pool : List ℤ) (c : Carried) (cnf proof : List ℕ) where
 
 -- the clauses are held
 pub working_fits : (n : ℕ) (rd : Read Cnf) (w : Table) (rows' : List Row) (pool pool' : List ℤ) (stack : List ℕ) →
-    Fills n rd (Working w) rows' pool pool' stack → Fit w rows' pool' stack
+    Fills n rd (Ok w) rows' pool pool' stack → Fit w rows' pool' stack
 working_fits n (faulty g) w rows' pool pool' stack k = let z : ◌≡◌ {A = ℕ} 0 1 = cc in absurd (omega arith)
 working_fits n (sound x) w rows' pool pool' stack k = k.fills.0
 

@@ -2,7 +2,7 @@
 use Rattle.std.specs.Prelude.{◌≡◌, cond, List, ℕ, ℤ, length}
 use Rattle.std.proofs.Math.Option.{Option, none, some}
 use Rattle.rules.specs.Answers.{lent, check_open, opened}
-use Rattle.rules.specs.declared.Check.TheVariants.{Passed}
+use Rattle.std.specs.Prelude.{Ok}
 use Rattle.dimacs.specs.Reading.{Read, faulty, sound, Cnf, read_text}
 use Rattle.lent.specs.declared.Carried.{Carried}
 use Rattle.lent_entries.specs.Lent.{state_lent}
@@ -28,7 +28,7 @@ called_empty a vars entries words = record { answer = a; carried = (opened_with 
 -- over a table of n entries
 pub record ChecksLent (n : ℕ) (pool : List ℤ) (c : Carried) (cnf proof : List ℕ) (q : LratCalled) (pool' : List ℤ) : Type 0 where
   pub answered : q.answer ≡ lrat n (length pool) cnf proof
-  pub emptied : (vars : ℕ) → opens n (length pool) cnf ≡ some vars → (q.carried ≡ opening.empty vars) × (check_open vars n (length pool) ≡ Passed)
+  pub emptied : (vars : ℕ) → opens n (length pool) cnf ≡ some vars → (q.carried ≡ opening.empty vars) × (check_open vars n (length pool) ≡ Ok tt)
   pub left : opens n (length pool) cnf ≡ none → (q.carried ≡ c) × (pool' ≡ pool)
 
 pub record Checks (entries : List Entry) (pool : List ℤ) (c : Carried) (cnf proof : List ℕ) (q : LratCalled) (pool' : List ℤ) : Type 0 where

@@ -10,8 +10,9 @@ ghost use Rattle.call_lrat.specs.Checks.{Checks, ChecksLent, called_empty};
 use dimacs::TextFault;
 use lent::Carried;
 use lent_entries::Entry;
+use lit_sets::LitSet;
 use lrat::LratAnswer;
-use lrat_fill::FilledText;
+use lrat_fill::Unfilled;
 use table::{Row, Table};
 
 // The answer, and what is carried after it.
@@ -21,7 +22,7 @@ pub struct LratCalled {
     pub carried: Carried,
 }
 
-// The number of a text's fault, and its byte.
+// The number of a text's fault, and its byte. It is no `From`: neither type is of this crate.
 pub fn fault_answer(fault: TextFault) -> LratAnswer
     ensures { result ≡ paper.answer (fault_numbers fault).0 (fault_numbers fault).1 }
 {
@@ -43,17 +44,12 @@ fn check_filled(
     ensures { result ≡ paper.check_proof (spelled t rows.old pool.old stack.now) proof.now }
 {
     let mut lits = [0i32; 256];
-    let mut plus = [0u64; 32];
-    let mut minus = [0u64; 32];
+    let mut falses = LitSet::empty();
     let start = lrat_feed::start();
-    let fed = lrat_feed::feed(
-        proof, rows, pool, stack, t, start, &mut lits, &mut plus, &mut minus,
-    );
+    let fed = lrat_feed::feed(proof, rows, pool, stack, t, start, &mut lits, &mut falses);
     let table = fed.table;
     let reader = fed.reader;
-    let ended = lrat_feed::finish(
-        rows, pool, stack, table, reader, &mut lits, &mut plus, &mut minus,
-    );
+    let ended = lrat_feed::finish(rows, pool, stack, table, reader, &mut lits, &mut falses);
     let last = ended.reader;
     lrat_feed::told(last)
 }
@@ -79,19 +75,20 @@ fn check_lent(n: usize, pool: &mut [i32], c: Carried, cnf: &[u8], proof: &[u8]) 
     }
     let mut rows = lent_entries::vacant_rows();
     let stack = [0u32; 1024];
-    let filled = lrat_fill::fill(cnf, &mut rows, pool, &stack, n as u32);
-    match filled {
-        FilledText::Faulty(fault) => LratCalled {
-            answer: fault_answer(fault),
-            carried: c,
-        },
-        FilledText::Full(code, vars) => {
-            emptied(LratAnswer { code, detail: 0 }, vars, n, pool.len())
-        }
-        FilledText::Working(t) => {
+    match lrat_fill::fill(cnf, &mut rows, pool, &stack, n as u32) {
+        Ok(t) => {
             let answer = check_filled(proof, &mut rows, pool, &stack, t);
             emptied(answer, t.vars, n, pool.len())
         }
+        Err(why) => match why {
+            Unfilled::Faulty(fault) => LratCalled {
+                answer: fault_answer(fault),
+                carried: c,
+            },
+            Unfilled::Full(code, vars) => {
+                emptied(LratAnswer { code, detail: 0 }, vars, n, pool.len())
+            }
+        },
     }
 }
 

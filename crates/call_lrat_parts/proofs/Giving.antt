@@ -22,9 +22,10 @@ use Rattle.lrat.specs.Checking.{answer}
 use Rattle.call_lrat_parts.specs.Parts.{is_reading, met, refused, GivenFrom, LratGiving}
 use Rattle.call_lrat_parts.specs.Running.{give_sized, proof_left, RanFrom, RanOn, GiveRun}
 use Rattle.call_lrat_parts.specs.declared.ProofReading.{ProofReading}
-use Rattle.call_lrat_parts.specs.declared.RanProof.{RanProof}
+use Rattle.lent_entries.specs.declared.Ran.{Ran}
+use Rattle.call_lrat_parts.specs.declared.LratGiven.{LratGiven}
 
-module _ (entries : List Entry) (pool : List ℤ) (c : Carried) (r : ProofReading) (part : List ℕ) (last : Bool) (q : RanProof)
+module _ (entries : List Entry) (pool : List ℤ) (c : Carried) (r : ProofReading) (part : List ℕ) (last : Bool) (q : Ran LratGiven)
     (rows' : List Row) (entries' : List Entry) (pool' : List ℤ)
     (ran : GiveRun (length entries) (taken entries c.count) pool c r part last q rows' pool')
     (put : entries' ≡ over entries (map entry_of (take q.count rows'))) (put_rows : map row_of entries' ≡ over (map row_of entries) (take q.count rows'))
@@ -32,8 +33,8 @@ module _ (entries : List Entry) (pool : List ℤ) (c : Carried) (r : ProofReadin
   -- nothing was run: nothing goes back
   stays : (q ≡ proof_left (answer 1 0) c r) × (pool' ≡ pool) → (q.given ≡ refused (answer 1 0) c r) × (entries' ≡ entries) × (pool' ≡ pool)
   stays l = (
-    ap (λ (x : RanProof). x.given) l.0,
-    put ∙ ap (λ n. over entries (map entry_of (take n rows'))) (ap (λ (x : RanProof). x.count) l.0),
+    ap (λ (x : Ran LratGiven). x.given) l.0,
+    put ∙ ap (λ n. over entries (map entry_of (take n rows'))) (ap (λ (x : Ran LratGiven). x.count) l.0),
     l.1,
   )
 

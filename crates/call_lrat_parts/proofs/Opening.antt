@@ -9,7 +9,7 @@ use lib.IntN.{ℤ}
 use lib.ListN.{length, take, length-map}
 use Rattle.rules.specs.Terms.{State, in_range}
 use Rattle.rules.specs.Answers.{lent, check_open}
-use Rattle.rules.specs.declared.Check.{Check}
+use Rattle.rules.specs.Results.{Check}
 use Rattle.rules.proofs.Lists.{by_cases, all_nil}
 use Rattle.lit_sets.proofs.Sets.{zeros_empty}
 use Rattle.table_slices.specs.Writes.{over}
@@ -31,11 +31,13 @@ use Rattle.lrat.specs.Checking.{answer, opened_for}
 use Rattle.lrat.specs.Machine.{started}
 use Rattle.lrat.proofs.Whole.{filled_size}
 use Rattle.lrat_fill.specs.Filling.{Fills}
-use Rattle.lrat_fill.specs.declared.FilledText.TheVariants.{Faulty, Full, Working}
+use Rattle.std.specs.Prelude.{Ok, Err}
+use Rattle.lrat_fill.specs.declared.Unfilled.TheVariants.{Faulty, Full}
 use Rattle.call_lrat_parts.specs.Parts.{is_reading, met, session, Rules, unopened, no_room, holding, by_text, rules_of, LratOpens, LratOpening}
 use Rattle.call_lrat_parts.specs.Running.{proof_left, proof_stored, fresh_reading, OpensOn, OpenRun}
 use Rattle.call_lrat_parts.specs.declared.ProofReading.{ProofReading}
-use Rattle.call_lrat_parts.specs.declared.RanProof.{RanProof}
+use Rattle.lent_entries.specs.declared.Ran.{Ran}
+use Rattle.call_lrat_parts.specs.declared.LratGiven.{LratGiven}
 use Rattle.call_lrat_parts.proofs.Running.{goes_back}
 
 -- ---- the working table
@@ -46,11 +48,11 @@ module _ (n : ℕ) (pool : List ℤ) (c : Carried) (r : ProofReading) (cnf : Lis
 
   module _ (t : lent n (length pool) ≡ true) (stack : List ℕ) {rows₁ : List Row} {pool₁ : List ℤ} where
     -- a text with a fault
-    pub faulted : (f : TextFault) → Fills n (read_text cnf) (Faulty f) rows₁ pool pool₁ stack →
+    pub faulted : (f : TextFault) → Fills n (read_text cnf) (Err (Faulty f)) rows₁ pool pool₁ stack →
         OpenRun n pool c r cnf (proof_left (answer (fault_numbers f).0 (fault_numbers f).1) c r) rows₁ pool₁
     faulted f h = record { bounded = (omega arith, omega arith); opens = rw t (by_read (read_text cnf) h) }
       where
-        by_read : (x : Read Cnf) → Fills n x (Faulty f) rows₁ pool pool₁ stack →
+        by_read : (x : Read Cnf) → Fills n x (Err (Faulty f)) rows₁ pool pool₁ stack →
             OpensOn (by_text n (length pool) x) n pool c r (proof_left (answer (fault_numbers f).0 (fault_numbers f).1) c r) rows₁ pool₁
         by_read (faulty g) d =
             let e : f ≡ g = cc in
@@ -58,11 +60,11 @@ module _ (n : ℕ) (pool : List ℤ) (c : Carried) (r : ProofReading) (cnf : Lis
         by_read (sound x) d = absurd d.fills
 
     -- no room for its rules
-    pub no_room_left : (code vars : ℕ) → Fills n (read_text cnf) (Full code vars) rows₁ pool pool₁ stack →
+    pub no_room_left : (code vars : ℕ) → Fills n (read_text cnf) (Err (Full code vars)) rows₁ pool pool₁ stack →
         OpenRun n pool c r cnf (proof_left (answer code 0) (opened_with vars (check_open vars n (length pool₁))).carried r) rows₁ pool₁
     no_room_left code vars h = record { bounded = (omega arith, omega arith); opens = rw t (by_read (read_text cnf) refl h) }
       where
-        by_read : (x : Read Cnf) → read_text cnf ≡ x → Fills n x (Full code vars) rows₁ pool pool₁ stack →
+        by_read : (x : Read Cnf) → read_text cnf ≡ x → Fills n x (Err (Full code vars)) rows₁ pool pool₁ stack →
             OpensOn (by_text n (length pool) x) n pool c r
             (proof_left (answer code 0) (opened_with vars (check_open vars n (length pool₁))).carried r) rows₁ pool₁
         by_read (faulty g) e d = let q = d.0 in let z : ◌≡◌ {A = ℕ} 0 1 = cc in absurd (omega arith)
@@ -75,18 +77,18 @@ module _ (n : ℕ) (pool : List ℤ) (c : Carried) (r : ProofReading) (cnf : Lis
             rw full (rw (v, long) (ap (λ (k : Check). proof_left (answer code 0) (opened_with x.vars k).carried r) passed))
 
     -- the table holds them, and fits
-    pub held_fits : (w : Table) → Fills n (read_text cnf) (Working w) rows₁ pool pool₁ stack → working.Fit w rows₁ pool₁ stack
+    pub held_fits : (w : Table) → Fills n (read_text cnf) (Ok w) rows₁ pool pool₁ stack → working.Fit w rows₁ pool₁ stack
     held_fits w h = by_read (read_text cnf) h
       where
-        by_read : (x : Read Cnf) → Fills n x (Working w) rows₁ pool pool₁ stack → working.Fit w rows₁ pool₁ stack
+        by_read : (x : Read Cnf) → Fills n x (Ok w) rows₁ pool pool₁ stack → working.Fit w rows₁ pool₁ stack
         by_read (faulty g) d = let q = d.0 in let z : ◌≡◌ {A = ℕ} 0 1 = cc in absurd (omega arith)
         by_read (sound x) d = d.fills.0
 
-    pub held : (w : Table) → Fills n (read_text cnf) (Working w) rows₁ pool pool₁ stack → {u : Table} {rows₂ : List Row} → length rows₂ ≡ 1280 →
+    pub held : (w : Table) → Fills n (read_text cnf) (Ok w) rows₁ pool pool₁ stack → {u : Table} {rows₂ : List Row} → length rows₂ ≡ 1280 →
         Squeezed w rows₁ pool₁ stack u rows₂ → OpenRun n pool c r cnf (proof_stored (answer 0 0) u stack fresh_reading) rows₂ pool₁
     held w h {u} {rows₂} long q = let b = by_read (read_text cnf) h in record { bounded = b.0; opens = rw t b.1 }
       where
-        by_read : (x : Read Cnf) → Fills n x (Working w) rows₁ pool pool₁ stack → ((u.count ≤ n) × (u.count ≤ 1280)) ×
+        by_read : (x : Read Cnf) → Fills n x (Ok w) rows₁ pool pool₁ stack → ((u.count ≤ n) × (u.count ≤ 1280)) ×
             OpensOn (by_text n (length pool) x) n pool c r (proof_stored (answer 0 0) u stack fresh_reading) rows₂ pool₁
         by_read (faulty g) d = let q = d.0 in let z : ◌≡◌ {A = ℕ} 0 1 = cc in absurd (omega arith)
         by_read (sound x) d =
@@ -105,7 +107,7 @@ fresh_is = let e = all_nil (in_range 2048) in rw e refl
 fresh_starts : (s : State) → session fresh_reading s ≡ started s
 fresh_starts s = rw zeros_empty refl
 
-module _ (entries : List Entry) (pool : List ℤ) (c : Carried) (r : ProofReading) (cnf : List ℕ) (q : RanProof)
+module _ (entries : List Entry) (pool : List ℤ) (c : Carried) (r : ProofReading) (cnf : List ℕ) (q : Ran LratGiven)
     (rows' : List Row) (entries' : List Entry) (pool' : List ℤ)
     (ran : OpenRun (length entries) pool c r cnf q rows' pool')
     (put : entries' ≡ over entries (map entry_of (take q.count rows'))) (put_rows : map row_of entries' ≡ over (map row_of entries) (take q.count rows'))
@@ -127,8 +129,8 @@ module _ (entries : List Entry) (pool : List ℤ) (c : Carried) (r : ProofReadin
   by_rules : (x : Rules) → lent (length entries) (length pool) ≡ true → OpensOn x (length entries) pool c r q rows' pool' →
       LratOpens x entries pool c r q.given entries' pool'
   by_rules (unopened a) t o =
-      (ap (λ (x : RanProof). x.given) o.0, stays (ap (λ (x : RanProof). x.count) o.0), o.1)
-  by_rules (no_room code vars) t o = (ap (λ (x : RanProof). x.given) o, stays (ap (λ (x : RanProof). x.count) o))
+      (ap (λ (x : Ran LratGiven). x.given) o.0, stays (ap (λ (x : Ran LratGiven). x.count) o.0), o.1)
+  by_rules (no_room code vars) t o = (ap (λ (x : Ran LratGiven). x.given) o, stays (ap (λ (x : Ran LratGiven). x.count) o))
   by_rules (holding s) t o = (o.0, spells t s o.2 o.1, ap (λ (x : ProofReading). session x s) o.1 ∙ fresh_starts s)
 
   pub opens_lent : LratOpening entries pool c r cnf q.given entries' pool'
@@ -143,4 +145,4 @@ module _ (entries : List Entry) (pool : List ℤ) (c : Carried) (r : ProofReadin
       out_of_range f =
           let o = ran.opens in
           let d = rw f at o in
-          rw f (ap (λ (x : RanProof). x.given) d.0, stays (ap (λ (x : RanProof). x.count) d.0), d.1)
+          rw f (ap (λ (x : Ran LratGiven). x.given) d.0, stays (ap (λ (x : Ran LratGiven). x.count) d.0), d.1)

@@ -21,7 +21,7 @@ use Rattle.lent.specs.Stored.{carried_of, PutsBack}
 use Rattle.lent.specs.declared.Carried.{Carried}
 use Rattle.lent.proofs.Stored.{stored_back, nothing_back}
 use Rattle.lent_load.specs.Loads.{Loads}
-use Rattle.lent_load.specs.declared.Loaded.TheVariants.{Working}
+use Rattle.std.specs.Prelude.{Some}
 use Rattle.lrat.specs.Checking.{answer}
 use Rattle.lrat.specs.Machine.{Session, run, decided, end_line, finish}
 use Rattle.lrat.specs.declared.ProofReader.{ProofReader}
@@ -31,13 +31,14 @@ use Rattle.lrat_feed.specs.declared.Fed.{Fed}
 use Rattle.call_lrat_parts.specs.Parts.{is_reading, session, ended}
 use Rattle.call_lrat_parts.specs.Running.{proof_left, proof_stored, reader_told, reader_answer, ReadOn, RanFrom, RanOn, give_sized, GiveRun}
 use Rattle.call_lrat_parts.specs.declared.ProofReading.{ProofReading}
-use Rattle.call_lrat_parts.specs.declared.RanProof.{RanProof}
+use Rattle.lent_entries.specs.declared.Ran.{Ran}
+use Rattle.call_lrat_parts.specs.declared.LratGiven.{LratGiven}
 use Rattle.call_lrat_parts.proofs.Sizes.{ended_size}
 
 -- ---- the working table
 
 abbrev pub reading_of : ProofReader → List ℤ → List ℕ → List ℕ → ProofReading
-reading_of r lits plus minus = record { reader = r; lits = lits; plus = plus; minus = minus }
+reading_of r lits plus minus = record { reader = r; lits = lits; falses = record { plus = plus; minus = minus } }
 
 -- what feeds the working table is a proof being read
 reading_so : {t : Table} {rows : List Row} {pool : List ℤ} {stack : List ℕ} (r : ProofReader) {lits : List ℤ} (plus minus : List ℕ) →
@@ -119,11 +120,11 @@ module _ (n : ℕ) (rows : List Row) (pool : List ℤ) (c : Carried) (r : ProofR
   }
 
   -- a state, loaded
-  module _ {t : Table} {rows₁ : List Row} (loaded : Loads c own pool (Working t) rows₁) where
+  module _ {t : Table} {rows₁ : List Row} (loaded : Loads c own pool (Some t) rows₁) where
     abbrev before : State
     before = working.spelled t rows₁ pool c.stack
 
-    ran_from : (q : RanProof) {rows' : List Row} {pool' : List ℤ} → RanFrom before n pool c r part last q rows' pool' →
+    ran_from : (q : Ran LratGiven) {rows' : List Row} {pool' : List ℤ} → RanFrom before n pool c r part last q rows' pool' →
         RanOn n rows pool c r part last q rows' pool'
     ran_from q {rows'} {pool'} f = let is = loaded.0 in record {
       bounded = f.back.bounded;
@@ -144,7 +145,7 @@ module _ (n : ℕ) (rows : List Row) (pool : List ℤ) (c : Carried) (r : ProofR
       again = λ _. refl;
     }
 
-    pub ran_further : r.reader.over ≡ false → length own ≡ n → (q : RanProof) {rows' : List Row} {pool' : List ℤ} →
+    pub ran_further : r.reader.over ≡ false → length own ≡ n → (q : Ran LratGiven) {rows' : List Row} {pool' : List ℤ} →
         ReadOn t.entries before r part last q rows' pool' → RanOn n rows pool c r part last q rows' pool'
     unfolding state_of
     ran_further o l q {rows'} {pool'} d =
@@ -166,6 +167,6 @@ module _ (n : ℕ) (rows : List Row) (pool : List ℤ) (c : Carried) (r : ProofR
   pub give_refused : give_sized n pool r ≡ false → {rows' : List Row} → GiveRun n rows pool c r part last (proof_left (answer 1 0) c r) rows' pool
   give_refused f = record { bounded = (omega arith, omega arith); judged_so = λ t. true-false t f; refused = λ g. (refl, refl) }
 
-  pub give_judged : give_sized n pool r ≡ true → {q : RanProof} {rows' : List Row} {pool' : List ℤ} → length rows' ≡ 1280 →
+  pub give_judged : give_sized n pool r ≡ true → {q : Ran LratGiven} {rows' : List Row} {pool' : List ℤ} → length rows' ≡ 1280 →
       RanOn n rows pool c r part last q rows' pool' → GiveRun n rows pool c r part last q rows' pool'
   give_judged t l s = record { bounded = (s.bounded.0, omega (arith, s.bounded.1)); judged_so = λ g. s; refused = λ f. true-false t f }

@@ -29,7 +29,7 @@ met entries pool c r = cond (is_reading r) (state_lent entries pool c) none
 
 -- the machine's session that all of them hold
 abbrev pub session : ProofReading → State → Session
-session r s = session_of r.reader r.lits r.plus r.minus s
+session r s = session_of r.reader r.lits r.falses.plus r.falses.minus s
 
 -- nothing else has changed
 abbrev pub refused : LratAnswer → Carried → ProofReading → LratGiven

@@ -16,14 +16,15 @@ use Rattle.lrat.specs.declared.ProofReader.{ProofReader}
 use Rattle.lrat_feed.specs.Feeding.{start_reader}
 use Rattle.call_lrat_parts.specs.Parts.{is_reading, session, refused, Rules, unopened, no_room, holding, rules_of, ended, answer_so_far}
 use Rattle.call_lrat_parts.specs.declared.ProofReading.{ProofReading}
-use Rattle.call_lrat_parts.specs.declared.RanProof.{RanProof}
+use Rattle.lent_entries.specs.declared.Ran.{Ran}
+use Rattle.call_lrat_parts.specs.declared.LratGiven.{LratGiven}
 
 -- ---- what is handed back
 
-abbrev pub proof_left : LratAnswer → Carried → ProofReading → RanProof
+abbrev pub proof_left : LratAnswer → Carried → ProofReading → Ran LratGiven
 proof_left a c r = record { given = refused a c r; count = 0 }
 
-abbrev pub proof_stored : LratAnswer → Table → List ℕ → ProofReading → RanProof
+abbrev pub proof_stored : LratAnswer → Table → List ℕ → ProofReading → Ran LratGiven
 proof_stored a t stack r = record { given = refused a (carried_of t stack) r; count = t.count }
 
 -- the answer that a reader tells where it is known, and till then
@@ -34,12 +35,12 @@ abbrev pub reader_answer : ProofReader → LratAnswer
 reader_answer r = cond r.over (reader_told r) (answer 0 0)
 
 abbrev pub fresh_reading : ProofReading
-fresh_reading = record { reader = start_reader; lits = replicate 256 (pos 0); plus = replicate 32 0; minus = replicate 32 0 }
+fresh_reading = record { reader = start_reader; lits = replicate 256 (pos 0); falses = record { plus = replicate 32 0; minus = replicate 32 0 } }
 
 -- ---- a part
 
 -- a working table of n entries spelled s, and the answer was not known yet
-pub record ReadOn (n : ℕ) (s : State) (r : ProofReading) (part : List ℕ) (last : Bool) (q : RanProof) (rows' : List Row) (pool' : List ℤ) : Type 0 where
+pub record ReadOn (n : ℕ) (s : State) (r : ProofReading) (part : List ℕ) (last : Bool) (q : Ran LratGiven) (rows' : List Row) (pool' : List ℤ) : Type 0 where
   pub after : Session
   pub fed : after ≡ ended last (run (session r s) part)
   pub answered : q.given.answer ≡ answer_so_far after
@@ -49,7 +50,7 @@ pub record ReadOn (n : ℕ) (s : State) (r : ProofReading) (part : List ℕ) (la
   pub stores : Stores n q.count q.given.carried rows' pool' after.state
 
 -- the rows spelled s: once the answer is known nothing goes back, and what is read stays
-pub record RanFrom (s : State) (n : ℕ) (pool : List ℤ) (c : Carried) (r : ProofReading) (part : List ℕ) (last : Bool) (q : RanProof) (rows' : List Row)
+pub record RanFrom (s : State) (n : ℕ) (pool : List ℤ) (c : Carried) (r : ProofReading) (part : List ℕ) (last : Bool) (q : Ran LratGiven) (rows' : List Row)
     (pool' : List ℤ) : Type 0 where
   pub after : Session
   pub fed : after ≡ ended last (run (session r s) part)
@@ -59,7 +60,7 @@ pub record RanFrom (s : State) (n : ℕ) (pool : List ℤ) (c : Carried) (r : Pr
   pub back : PutsBack (not r.reader.over) n c pool s q.count q.given.carried rows' pool' after.state
   pub again : r.reader.over ≡ true → q.given.reading ≡ r
 
-pub record RanOn (n : ℕ) (rows : List Row) (pool : List ℤ) (c : Carried) (r : ProofReading) (part : List ℕ) (last : Bool) (q : RanProof) (rows' : List Row)
+pub record RanOn (n : ℕ) (rows : List Row) (pool : List ℤ) (c : Carried) (r : ProofReading) (part : List ℕ) (last : Bool) (q : Ran LratGiven) (rows' : List Row)
     (pool' : List ℤ) : Type 0 where
   pub bounded : (q.count ≤ n) × (q.count ≤ length rows')
   pub ran : (s : State) → state_carried c (take n rows) pool ≡ some s → RanFrom s n pool c r part last q rows' pool'
@@ -69,7 +70,7 @@ pub record RanOn (n : ℕ) (rows : List Row) (pool : List ℤ) (c : Carried) (r 
 abbrev pub give_sized : ℕ → List ℤ → ProofReading → Bool
 give_sized n pool r = lent n (length pool) && is_reading r
 
-pub record GiveRun (n : ℕ) (rows : List Row) (pool : List ℤ) (c : Carried) (r : ProofReading) (part : List ℕ) (last : Bool) (q : RanProof) (rows' : List Row)
+pub record GiveRun (n : ℕ) (rows : List Row) (pool : List ℤ) (c : Carried) (r : ProofReading) (part : List ℕ) (last : Bool) (q : Ran LratGiven) (rows' : List Row)
     (pool' : List ℤ) : Type 0 where
   pub bounded : (q.count ≤ n) × (q.count ≤ 1280)
   pub judged_so : give_sized n pool r ≡ true → RanOn n rows pool c r part last q rows' pool'
@@ -77,13 +78,13 @@ pub record GiveRun (n : ℕ) (rows : List Row) (pool : List ℤ) (c : Carried) (
 
 -- ---- opening
 
-abbrev pub OpensOn : Rules → ℕ → List ℤ → Carried → ProofReading → RanProof → List Row → List ℤ → Type 0
+abbrev pub OpensOn : Rules → ℕ → List ℤ → Carried → ProofReading → Ran LratGiven → List Row → List ℤ → Type 0
 OpensOn (unopened a) n pool c r q rows' pool' = (q ≡ proof_left a c r) × (pool' ≡ pool)
 OpensOn (no_room code vars) n pool c r q rows' pool' = q ≡ proof_left (answer code 0) (opening.empty vars) r
 OpensOn (holding s) n pool c r q rows' pool' =
     (q.given.answer ≡ answer 0 0) × (q.given.reading ≡ fresh_reading) × Stores n q.count q.given.carried rows' pool' s
 
-pub record OpenRun (n : ℕ) (pool : List ℤ) (c : Carried) (r : ProofReading) (cnf : List ℕ) (q : RanProof) (rows' : List Row) (pool' : List ℤ) :
+pub record OpenRun (n : ℕ) (pool : List ℤ) (c : Carried) (r : ProofReading) (cnf : List ℕ) (q : Ran LratGiven) (rows' : List Row) (pool' : List ℤ) :
     Type 0 where
   pub bounded : (q.count ≤ n) × (q.count ≤ 1280)
   pub opens : OpensOn (rules_of n (length pool) cnf) n pool c r q rows' pool'

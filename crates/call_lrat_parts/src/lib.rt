@@ -13,11 +13,11 @@ ghost use Rattle.call_lrat_parts.specs.Parts.{is_reading, ended, LratOpening, Lr
 ghost use Rattle.call_lrat_parts.specs.Running.{proof_left, proof_stored, reader_answer, fresh_reading, ReadOn, RanOn, GiveRun, OpenRun};
 
 use lent::Carried;
-use lent_entries::Entry;
-use lent_load::Loaded;
+use lent_entries::{Entry, Ran};
+use lit_sets::LitSet;
 use lrat::{LratAnswer, ProofReader};
 use lrat_feed::Fed;
-use lrat_fill::FilledText;
+use lrat_fill::Unfilled;
 use rules::Check;
 use table::{Row, Table};
 
@@ -26,8 +26,7 @@ use table::{Row, Table};
 pub struct ProofReading {
     pub reader: ProofReader,
     pub lits: [i32; 256],
-    pub plus: [u64; 32],
-    pub minus: [u64; 32],
+    pub falses: LitSet,
 }
 
 // The answer, what is carried and what is read after a call.
@@ -38,20 +37,13 @@ pub struct LratGiven {
     pub reading: ProofReading,
 }
 
-// The same, and how many rows are to be put back.
-#[derive(Clone, Copy)]
-struct RanProof {
-    pub given: LratGiven,
-    pub count: usize,
-}
-
 // ---- what is handed back
 
 // Nothing has changed, and no row is put back.
-fn left(answer: LratAnswer, c: Carried, r: ProofReading) -> RanProof
+fn left(answer: LratAnswer, c: Carried, r: ProofReading) -> Ran<LratGiven>
     ensures { result ≡ proof_left answer c r }
 {
-    RanProof {
+    Ran {
         given: LratGiven {
             answer,
             carried: c,
@@ -62,17 +54,17 @@ fn left(answer: LratAnswer, c: Carried, r: ProofReading) -> RanProof
 }
 
 // Code 1: what is lent or read is not what it should be.
-fn unmet(c: Carried, r: ProofReading) -> RanProof
+fn unmet(c: Carried, r: ProofReading) -> Ran<LratGiven>
     ensures { result ≡ proof_left (answer 1 0) c r }
 {
     left(LratAnswer { code: 1, detail: 0 }, c, r)
 }
 
 // The rows held go back, and what is carried and read is new.
-fn stored(answer: LratAnswer, t: Table, stack: [u32; 1024], reading: ProofReading) -> RanProof
+fn stored(answer: LratAnswer, t: Table, stack: [u32; 1024], reading: ProofReading) -> Ran<LratGiven>
     ensures { result ≡ proof_stored answer t stack reading }
 {
-    RanProof {
+    Ran {
         given: LratGiven {
             answer,
             carried: lent::carry(t, stack),
@@ -94,7 +86,7 @@ fn is_reading(r: ProofReading) -> bool
         return false;
     }
     let lits = r.lits;
-    let Check::Passed = lit_clause::ranged(2048, &lits[..line.count as usize], 0) else {
+    let Ok(()) = lit_clause::ranged(2048, &lits[..line.count as usize], 0) else {
         return false;
     };
     31 <= line.noted
@@ -110,21 +102,20 @@ fn feed_part(
     t: Table,
     r: ProofReader,
     lits: &mut [i32],
-    plus: &mut [u64; 32],
-    minus: &mut [u64; 32],
+    falses: &mut LitSet,
 ) -> Fed
     requires { Feedable t rows.old pool.old stack.now r lits.old }
-    ensures { Feeds (ended last (run (session_of r lits.old plus.old minus.old
+    ensures { Feeds (ended last (run (session_of r lits.old falses.old.plus falses.old.minus
         (spelled t rows.old pool.old stack.now)) part.now))
-        result rows.new pool.new stack.now lits.new plus.new minus.new }
+        result rows.new pool.new stack.now lits.new falses.new.plus falses.new.minus }
 {
-    let fed = lrat_feed::feed(part, rows, pool, stack, t, r, lits, plus, minus);
+    let fed = lrat_feed::feed(part, rows, pool, stack, t, r, lits, falses);
     if !last {
         return fed;
     }
     let table = fed.table;
     let reader = fed.reader;
-    lrat_feed::finish(rows, pool, stack, table, reader, lits, plus, minus)
+    lrat_feed::finish(rows, pool, stack, table, reader, lits, falses)
 }
 
 // The answer where it is known; till then the part is accepted.
@@ -146,17 +137,24 @@ fn read_on(
     r: ProofReading,
     part: &[u8],
     last: bool,
-) -> RanProof
+) -> Ran<LratGiven>
     requires { Fit t rows.old pool.old stack × (is_reading r ≡ true) }
     ensures { ReadOn t.entries (spelled t rows.old pool.old stack) r part.now last result rows.new
         pool.new }
 {
     let before = r.reader;
     let mut lits = r.lits;
-    let mut plus = r.plus;
-    let mut minus = r.minus;
+    let mut falses = r.falses;
     let fed = feed_part(
-        part, last, rows, pool, &stack, t, before, &mut lits, &mut plus, &mut minus,
+        part,
+        last,
+        rows,
+        pool,
+        &stack,
+        t,
+        before,
+        &mut lits,
+        &mut falses,
     );
     let table = fed.table;
     let whole = table_room::squeeze(rows, pool, &stack, table);
@@ -164,8 +162,7 @@ fn read_on(
     let reading = ProofReading {
         reader,
         lits,
-        plus,
-        minus,
+        falses,
     };
     stored(answer_so_far(reader), whole, stack, reading)
 }
@@ -179,11 +176,11 @@ fn run_part(
     r: ProofReading,
     part: &[u8],
     last: bool,
-) -> RanProof
+) -> Ran<LratGiven>
     requires { (length rows.old ≡ 1280) × (lent n (length pool.old) ≡ true) × (is_reading r ≡ true) }
     ensures { RanOn n rows.old pool.old c r part.now last result rows.new pool.new }
 {
-    let Loaded::Working(t) = lent_load::load(&mut rows[..n], pool, c) else {
+    let Some(t) = lent_load::load(&mut rows[..n], pool, c) else {
         return unmet(c, r);
     };
     let reader = r.reader;
@@ -203,7 +200,7 @@ fn give_lent(
     r: ProofReading,
     part: &[u8],
     last: bool,
-) -> RanProof
+) -> Ran<LratGiven>
     requires { length rows.old ≡ 1280 }
     ensures { GiveRun n rows.old pool.old c r part.now last result rows.new pool.new }
 {
@@ -225,13 +222,12 @@ fn fresh() -> ProofReading
     ProofReading {
         reader: lrat_feed::start(),
         lits: [0i32; 256],
-        plus: [0u64; 32],
-        minus: [0u64; 32],
+        falses: LitSet::empty(),
     }
 }
 
 // The tables opened empty: there is no room for the rules.
-fn emptied(code: u32, vars: u32, n: usize, words: usize, r: ProofReading) -> RanProof
+fn emptied(code: u32, vars: u32, n: usize, words: usize, r: ProofReading) -> Ran<LratGiven>
     ensures { result ≡ proof_left (answer code 0) (opened_with vars (check_open vars n words)).carried r }
 {
     let opened = lent_open::open_sized(vars, n, words);
@@ -247,7 +243,7 @@ fn open_lent(
     c: Carried,
     r: ProofReading,
     cnf: &[u8],
-) -> RanProof
+) -> Ran<LratGiven>
     requires { length rows.old ≡ 1280 }
     ensures { OpenRun n pool.old c r cnf.now result rows.new pool.new }
 {
@@ -255,14 +251,15 @@ fn open_lent(
         return unmet(c, r);
     }
     let stack = [0u32; 1024];
-    let filled = lrat_fill::fill(cnf, rows, pool, &stack, n as u32);
-    match filled {
-        FilledText::Faulty(fault) => left(call_lrat::fault_answer(fault), c, r),
-        FilledText::Full(code, vars) => emptied(code, vars, n, pool.len(), r),
-        FilledText::Working(t) => {
+    match lrat_fill::fill(cnf, rows, pool, &stack, n as u32) {
+        Ok(t) => {
             let whole = table_room::squeeze(rows, pool, &stack, t);
             stored(LratAnswer { code: 0, detail: 0 }, whole, stack, fresh())
         }
+        Err(why) => match why {
+            Unfilled::Faulty(fault) => left(call_lrat::fault_answer(fault), c, r),
+            Unfilled::Full(code, vars) => emptied(code, vars, n, pool.len(), r),
+        },
     }
 }
 

@@ -23,28 +23,28 @@ use Rattle.lent_entries.specs.Lent.{entry_of, row_of, taken, state_lent}
 use Rattle.lent_entries.specs.declared.Entry.{Entry}
 use Rattle.lent_entries.proofs.Lending.{taken_spells, put_unaltered, put_spells}
 use Rattle.lent_load.specs.Loads.{Loads}
-use Rattle.lent_load.specs.declared.Loaded.TheVariants.{Working}
+use Rattle.std.specs.Prelude.{Some}
 use Rattle.table_room.specs.Room.{Squeezed}
 use Rattle.line_read.specs.Machine.{fresh}
 use Rattle.line_read.specs.Parts.{closes, state_after, some_alters}
 use Rattle.line_read.proofs.Parts.{after_entries}
 use Rattle.call_serve.specs.Serving.{Attending, ServedRows, Serving}
 use Rattle.call_serve.specs.declared.Attended.{Attended}
-use Rattle.call_serve.specs.declared.Served.{Served}
+use Rattle.lent_entries.specs.declared.Ran.{Ran}
 
 module _ (n : ℕ) (rows : List Row) (pool : List ℤ) (c : Carried) where
   abbrev own : List Row
   own = take n rows
 
   -- no state: nothing is served
-  pub unserved : is_state c own pool ≡ false → {rows' : List Row} → ServedRows n rows pool c (record { carried = c; count = 0 }) rows' pool
+  pub unserved : is_state c own pool ≡ false → {rows' : List Row} → ServedRows n rows pool c (record { given = c; count = 0 }) rows' pool
   unserved f = record {
     bounded = (omega arith, omega arith);
     served = λ s d. absurd (none-ne-some s (rw f at d));
   }
 
   -- a state, loaded and attended
-  module _ {t : Table} {rows₁ : List Row} (loaded : Loads c own pool (Working t) rows₁)
+  module _ {t : Table} {rows₁ : List Row} (loaded : Loads c own pool (Some t) rows₁)
       {q : Attended} {rows₂ : List Row} {pool₂ : List ℤ} {stack₂ : List ℕ}
       (attended : (bs : List ℕ) × Attending bs t rows₁ pool c.stack q rows₂ pool₂ stack₂) where
     abbrev before : State
@@ -55,7 +55,7 @@ module _ (n : ℕ) (rows : List Row) (pool : List ℤ) (c : Carried) where
 
     served : (k : ℕ) (c' : Carried) (rows' : List Row) →
         PutsBack (some_alters before (closes fresh bytes)) n c pool before k c' rows' pool₂ (working.spelled q.table rows₂ pool₂ stack₂)
-        → ServedRows n rows pool c (record { carried = c'; count = k }) rows' pool₂
+        → ServedRows n rows pool c (record { given = c'; count = k }) rows' pool₂
     served k c' rows' back = let is = loaded.0 in record {
       bounded = back.bounded;
       served =
@@ -66,7 +66,7 @@ module _ (n : ℕ) (rows : List Row) (pool : List ℤ) (c : Carried) where
           );
     }
 
-    pub served_kept : q.altered ≡ false → ServedRows n rows pool c (record { carried = c; count = 0 }) rows₂ pool₂
+    pub served_kept : q.altered ≡ false → ServedRows n rows pool c (record { given = c; count = 0 }) rows₂ pool₂
     served_kept e =
         let alters = attended.1.altered in
         let l = alters.left e in
@@ -74,7 +74,7 @@ module _ (n : ℕ) (rows : List Row) (pool : List ℤ) (c : Carried) where
         served 0 c rows₂ (nothing_back (sym alters.told_so ∙ e) p (rw (a, b, p, k)))
 
     pub served_stored : q.altered ≡ true → length own ≡ n → {u : Table} {rows₃ : List Row} → Squeezed q.table rows₂ pool₂ stack₂ u rows₃ →
-        ServedRows n rows pool c (record { carried = carried_of u stack₂; count = u.count }) rows₃ pool₂
+        ServedRows n rows pool c (record { given = carried_of u stack₂; count = u.count }) rows₃ pool₂
     unfolding state_of
     served_stored e l {u} {rows₃} z =
         let sized = ap (λ (x : State). x.entries) attended.1.state ∙ after_entries (closes fresh bytes) before ∙ ap (λ (x : State). x.entries) loaded.2
@@ -97,12 +97,12 @@ module _ (entries : List Entry) (pool : List ℤ) (c : Carried) (opens : state_l
   taken_opened : state_carried c (take (length entries) (taken entries c.count)) pool ≡ some (opened 2048 1024 8192)
   taken_opened = taken_spells c entries pool opened_most.0 ∙ rw fits at opens
 
-  module _ (q : Served) (rows' : List Row) (entries' : List Entry) (pool' : List ℤ)
+  module _ (q : Ran Carried) (rows' : List Row) (entries' : List Entry) (pool' : List ℤ)
       (ran : ServedRows (length entries) (taken entries c.count) pool c q rows' pool')
       (put : entries' ≡ over entries (map entry_of (take q.count rows')))
       (put_rows : map row_of entries' ≡ over (map row_of entries) (take q.count rows'))
       (same_entries : length entries' ≡ length entries) (same_pool : length pool' ≡ length pool) where
-    pub serves_lent : Serving entries pool c q.carried entries' pool'
+    pub serves_lent : Serving entries pool c q.given entries' pool'
     serves_lent =
         let s = ran.served (opened 2048 1024 8192) taken_opened in
         record {

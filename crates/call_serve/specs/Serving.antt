@@ -18,7 +18,7 @@ use Rattle.line_read.specs.declared.Reader.{Reader}
 use Rattle.line_close.specs.Replies.{Altering, Feedable}
 use Rattle.call_serve.specs.declared.Pumped.{Pumped}
 use Rattle.call_serve.specs.declared.Attended.{Attended}
-use Rattle.call_serve.specs.declared.Served.{Served}
+use Rattle.lent_entries.specs.declared.Ran.{Ran}
 
 -- ---- a part
 
@@ -42,10 +42,10 @@ pub record Attending (bs : List ℕ) (t : Table) (rows : List Row) (pool : List 
   pub altered : Altering (some_alters (working.spelled t rows pool stack) (closes fresh bs)) q.altered t rows pool stack q.table rows' pool' stack'
 
 -- on the rows taken in of a table of n entries
-pub record ServedRows (n : ℕ) (rows : List Row) (pool : List ℤ) (c : Carried) (q : Served) (rows' : List Row) (pool' : List ℤ) : Type 0 where
+pub record ServedRows (n : ℕ) (rows : List Row) (pool : List ℤ) (c : Carried) (q : Ran Carried) (rows' : List Row) (pool' : List ℤ) : Type 0 where
   pub bounded : (q.count ≤ n) × (q.count ≤ length rows')
   pub served : (s : State) → state_carried c (take n rows) pool ≡ some s →
-      (bs : List ℕ) × PutsBack (some_alters s (closes fresh bs)) n c pool s q.count q.carried rows' pool' (state_after s (closes fresh bs))
+      (bs : List ℕ) × PutsBack (some_alters s (closes fresh bs)) n c pool s q.count q.given rows' pool' (state_after s (closes fresh bs))
 
 -- "The program opens V = 2,048, 1,024 entries and 8,192 words. It reads standard input": what is put back spells the state after some bytes, and where no line
 -- of them was an accepted change every word is what it was

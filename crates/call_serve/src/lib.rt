@@ -10,27 +10,19 @@ ghost use Rattle.line_close.specs.Replies.{Feedable};
 ghost use Rattle.call_serve.specs.Serving.{Attending, Pumping, ServedRows, Serving};
 
 use lent::Carried;
-use lent_entries::Entry;
-use lent_load::Loaded;
+use lent_entries::{Entry, Ran};
 use line_read::Reader;
 use std::io;
 use std::io::Read;
 use table::{Row, Table};
 
-// A write that failed is said: without it the answers would be lost in silence.
-fn say_unsent(rt: &HostRuntime, reason: io::Error) {
-    trouble::fail(rt, b"zahrubel: cannot write the answers", reason);
-}
-
-// Writes answers, and whether every one was taken whole.
+// Writes answers, and whether every one was taken whole. A write that failed is said: without it the answers would be lost in silence.
 fn send(rt: &HostRuntime, answers: &[u8]) -> bool {
-    match rt.stdout().write_all(answers) {
-        Ok(()) => true,
-        Err(reason) => {
-            say_unsent(rt, reason);
-            false
-        }
+    let sent = rt.stdout().write_all(answers);
+    if let Err(reason) = sent {
+        trouble::fail(rt, b"zahrubel: cannot write the answers", reason);
     }
+    sent.is_ok()
 }
 
 // How far a part was fed, the reader and the numbers beside the tables after it, whether a line was an accepted change, and whether every write was taken
@@ -65,6 +57,7 @@ fn pump(
     let mut table = t;
     let mut altered = false;
     let mut sent = true;
+    // Stays a `while`: the step is as long as the lines that a call takes.
     while from < part.len() {
         let fed = line_feed::feed(part, from, reader, frame, rows, pool, stack, table, out, 0);
         from = fed.from;
@@ -105,16 +98,6 @@ struct Attended {
     pub altered: bool,
 }
 
-// How many bytes a read put at the start of the buffer: none where it failed.
-fn count(got: io::Result<usize>, buf: &[u8]) -> usize
-    ensures { result ≤ length buf.now }
-{
-    match got {
-        Ok(n) => n.min(buf.len()),
-        Err(_) => 0,
-    }
-}
-
 // Reads standard input to its end, in parts of 64 KiB, and answers what was read before it reads again. A read or a write that fails is said, and ends it.
 fn attend(
     rt: &HostRuntime,
@@ -133,10 +116,9 @@ fn attend(
     let mut reader = line_read::fresh();
     let mut table = t;
     let mut altered = false;
-    let mut turns = u64::MAX;
-    while turns > 0 {
+    for _ in 0..u64::MAX {
         let got = rt.stdin().read(&mut buf);
-        let n = count(got, &buf);
+        let n = got.unwrap_or(0);
         if n == 0 {
             conclude(rt, got, reader, &mut out);
             break;
@@ -158,28 +140,23 @@ fn attend(
         if !q.sent {
             break;
         }
-        turns -= 1;
     }
     Attended { table, altered }
 }
 
-// What is carried after the input, and how many rows are to be put back.
-#[derive(Clone, Copy)]
-struct Served {
-    pub carried: Carried,
-    pub count: usize,
-}
-
 // The input on the rows taken in, of which the first n are the table's.
-fn serve_rows(rt: &HostRuntime, n: usize, rows: &mut [Row], pool: &mut [i32], c: Carried) -> Served
+fn serve_rows(
+    rt: &HostRuntime,
+    n: usize,
+    rows: &mut [Row],
+    pool: &mut [i32],
+    c: Carried,
+) -> Ran<Carried>
     requires { (length rows.old ≡ 1280) × (n ≤ 1024) × (length pool.old ≤ 8192) }
     ensures { ServedRows n rows.old pool.old c result rows.new pool.new }
 {
-    let Loaded::Working(t) = lent_load::load(&mut rows[..n], pool, c) else {
-        return Served {
-            carried: c,
-            count: 0,
-        };
+    let Some(t) = lent_load::load(&mut rows[..n], pool, c) else {
+        return Ran { given: c, count: 0 };
     };
     let mut stack = c.stack;
     let q = attend(rt, rows, pool, &mut stack, t);
@@ -187,15 +164,12 @@ fn serve_rows(rt: &HostRuntime, n: usize, rows: &mut [Row], pool: &mut [i32], c:
         let table = q.table;
         let whole = table_room::squeeze(rows, pool, &stack, table);
         let count = whole.count as usize;
-        return Served {
-            carried: lent::carry(whole, stack),
+        return Ran {
+            given: lent::carry(whole, stack),
             count,
         };
     }
-    Served {
-        carried: c,
-        count: 0,
-    }
+    Ran { given: c, count: 0 }
 }
 
 // Serves standard input on lent tables that were just opened; what is carried after it.
@@ -206,5 +180,5 @@ pub fn serve(rt: &HostRuntime, entries: &mut [Entry], pool: &mut [i32], carried:
     let mut rows = lent_entries::take_in(entries, carried.count);
     let served = serve_rows(rt, entries.len(), &mut rows, pool, carried);
     lent_entries::put_back(entries, served.count, rows);
-    served.carried
+    served.given
 }

@@ -9,9 +9,8 @@ use lib.ListN.{length}
 use Rattle.rules.specs.Terms.{State}
 use Rattle.rules.specs.Frames.{Frame, ADD, LEARN, FORGET, PROMOTE, DROP, WEAKEN, RESTORE, SAT, UNSAT, Parsed, malformed, framed, parse}
 use Rattle.rules.specs.Answers.{check, Handed, untouched, Outcome, settled, outcome, outcome_parsed, altered}
-use Rattle.rules.specs.declared.Answer.TheVariants.{Refused}
-use Rattle.rules.specs.declared.Check.{Check}
-use Rattle.rules.specs.declared.Check.TheVariants.{Passed, Failed}
+use Rattle.std.specs.Prelude.{Ok, Err}
+use Rattle.rules.specs.Results.{Check}
 use Rattle.rules.specs.declared.Fault.TheVariants.{NoState}
 use Rattle.rules.proofs.Lists.{true-false}
 use Rattle.rules.proofs.Lasting.{outcome_lasts, unaltered_state}
@@ -23,7 +22,7 @@ use Rattle.lent.specs.Stored.{PutsBack}
 use Rattle.lent.specs.declared.Carried.{Carried}
 use Rattle.lent.proofs.Stored.{stored_back, nothing_back}
 use Rattle.lent_load.specs.Loads.{Loads}
-use Rattle.lent_load.specs.declared.Loaded.TheVariants.{Working}
+use Rattle.std.specs.Prelude.{Some}
 use Rattle.step_outcome.specs.Told.{unless_refused, is_tables}
 use Rattle.step_answers.specs.Answered.{ModelWritten}
 use Rattle.step_outcome.specs.declared.Stepped.{Stepped}
@@ -48,16 +47,16 @@ tells s malformed = refl
 tells s (framed f) = by_check f (check s f)
   where
     by_check : (f : Frame) (k : Check) → Told (unless_refused (writes (framed f)) (settled s f k).answer) (settled s f k).handed
-    by_check f (Failed e) = refl
-    by_check (ADD i c) Passed = refl
-    by_check (LEARN i c hints) Passed = refl
-    by_check (FORGET i) Passed = refl
-    by_check (PROMOTE i) Passed = refl
-    by_check (DROP i hints) Passed = refl
-    by_check (WEAKEN i w groups) Passed = refl
-    by_check (RESTORE i) Passed = refl
-    by_check (SAT assumed vs) Passed = λ model words w other. w
-    by_check (UNSAT assumed hints) Passed = refl
+    by_check f (Err e) = refl
+    by_check (ADD i c) (Ok tt) = refl
+    by_check (LEARN i c hints) (Ok tt) = refl
+    by_check (FORGET i) (Ok tt) = refl
+    by_check (PROMOTE i) (Ok tt) = refl
+    by_check (DROP i hints) (Ok tt) = refl
+    by_check (WEAKEN i w groups) (Ok tt) = refl
+    by_check (RESTORE i) (Ok tt) = refl
+    by_check (SAT assumed vs) (Ok tt) = λ model words w other. w
+    by_check (UNSAT assumed hints) (Ok tt) = refl
 
 -- ---- no state
 
@@ -66,7 +65,7 @@ no_state : (c : Carried) (rows : List Row) (pool : List ℤ) → is_state c rows
 no_state c rows pool n frame = rw n
 
 pub unloaded : (c : Carried) (rows : List Row) (pool : List ℤ) → is_state c rows pool ≡ false → (frame : List ℤ) (model : List ℕ) {rows' : List Row} →
-    Running (length rows) rows c pool frame model (step_left (Refused NoState) c) rows' pool model
+    Running (length rows) rows c pool frame model (step_left (Err NoState) c) rows' pool model
 unloaded c rows pool n frame model =
     let e = no_state c rows pool n frame in
     record {
@@ -78,7 +77,7 @@ unloaded c rows pool n frame model =
 
 -- ---- a state, loaded and stepped
 
-module _ (c : Carried) (rows : List Row) (pool : List ℤ) {t : Table} {rows₁ : List Row} (loaded : Loads c rows pool (Working t) rows₁)
+module _ (c : Carried) (rows : List Row) (pool : List ℤ) {t : Table} {rows₁ : List Row} (loaded : Loads c rows pool (Some t) rows₁)
     {frame : List ℤ} {s : Stepped} {rows₂ : List Row} {pool₂ : List ℤ} {stack₂ : List ℕ} {model₀ words : List ℕ}
     (st : Steps t rows₁ pool c.stack frame s rows₂ pool₂ stack₂ model₀ words) where
   abbrev before : State
@@ -113,7 +112,7 @@ module _ (c : Carried) (rows : List Row) (pool : List ℤ) {t : Table} {rows₁ 
   -- whatever goes back
   ran : (c' : Carried) (k : ℕ) {rows' : List Row} {model model' : List ℕ} → ModelWritten out.handed model model' →
       PutsBack changed (length rows) c pool before k c' rows' pool₂ out.state →
-      Running (length rows) rows c pool frame model (record { called = record { answer = s.answer; carried = c' }; count = k }) rows' pool₂ model'
+      Running (length rows) rows c pool frame model (record { given = record { answer = s.answer; carried = c' }; count = k }) rows' pool₂ model'
   ran c' k {rows'} h b =
       let p = paper in
       let is = loaded.0 in

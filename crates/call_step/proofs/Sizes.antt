@@ -12,7 +12,7 @@ use lib.Seq.{length-take-le}
 use borrow.Author.Tests.{eqb-true}
 use Rattle.rules.specs.Terms.{State}
 use Rattle.rules.specs.Answers.{lent}
-use Rattle.rules.specs.declared.Answer.TheVariants.{Refused}
+use Rattle.std.specs.Prelude.{Ok, Err}
 use Rattle.rules.specs.declared.Fault.TheVariants.{NoState}
 use Rattle.rules.proofs.Lists.{and_left, and_right}
 use Rattle.table.specs.Spelled.{Row}
@@ -21,7 +21,8 @@ use Rattle.lent.specs.declared.Carried.{Carried}
 use Rattle.lent.proofs.Sizes.{lent_most}
 use Rattle.lent.proofs.Stored.{back_longer}
 use Rattle.call_step.specs.Running.{Running, StepRun, step_sized, step_left}
-use Rattle.call_step.specs.declared.RanFrame.{RanFrame}
+use Rattle.lent_entries.specs.declared.Ran.{Ran}
+use Rattle.lent.specs.declared.Called.{Called}
 
 pub sizes : (n : ℕ) (pool : List ℤ) (model : List ℕ) → step_sized n pool model ≡ true → (n ≤ 1024) × (length pool ≤ 8192) × (length model ≡ 32)
 sizes n pool model h =
@@ -29,11 +30,11 @@ sizes n pool model h =
     (k.0, k.1, eqb-true (length model) 32 (and_right (lent n (length pool)) (eqb (length model) 32) h))
 
 module _ {n : ℕ} {rows : List Row} {pool : List ℤ} {c : Carried} {frame : List ℤ} {model : List ℕ} where
-  pub run_refused : step_sized n pool model ≡ false → StepRun n rows pool c frame model (step_left (Refused NoState) c) rows pool model
+  pub run_refused : step_sized n pool model ≡ false → StepRun n rows pool c frame model (step_left (Err NoState) c) rows pool model
   run_refused f = record { bounded = (omega arith, omega arith); judged_so = λ t. absurd (true≢false (sym t ∙ f)); refused = λ g. (refl, refl, refl) }
 
   -- the rows that were run come first again
-  pub run_judged : step_sized n pool model ≡ true → n ≤ length rows → (xs rest : List Row) {r : RanFrame} {pool' : List ℤ} {model' : List ℕ} →
+  pub run_judged : step_sized n pool model ≡ true → n ≤ length rows → (xs rest : List Row) {r : Ran Called} {pool' : List ℤ} {model' : List ℕ} →
       Running (length (take n rows)) (take n rows) c pool frame model r xs pool' model' → StepRun n rows pool c frame model r (xs ++ rest) pool' model'
   run_judged t h xs rest {r} {pool'} {model'} s =
       let k : length (take n rows) ≡ n = length-take-le n rows h in
@@ -46,7 +47,7 @@ module _ {n : ℕ} {rows : List Row} {pool : List ℤ} {c : Carried} {frame : Li
       }
     where
       -- no more rows go back than there are entries
-      at_most : {r : RanFrame} {pool' : List ℤ} {model' : List ℕ} {xs : List Row} → Running n (take n rows) c pool frame model r xs pool' model' →
+      at_most : {r : Ran Called} {pool' : List ℤ} {model' : List ℕ} {xs : List Row} → Running n (take n rows) c pool frame model r xs pool' model' →
           (x : Option State) → state_carried c (take n rows) pool ≡ x → r.count ≤ n
       at_most run (some x) e = (run.back x e).bounded.0
-      at_most run none e = let q = ap (λ (y : RanFrame). y.count) (run.left e).0 in omega arith
+      at_most run none e = let q = ap (λ (y : Ran Called). y.count) (run.left e).0 in omega arith

@@ -11,8 +11,8 @@ use lib.ListN.{length, take}
 use Rattle.rules.specs.Terms.{State}
 use Rattle.rules.specs.Frames.{Parsed, parse}
 use Rattle.rules.specs.Answers.{untouched, Outcome, outcome, is_change, altered, lent}
-use Rattle.rules.specs.declared.Answer.{Answer}
-use Rattle.rules.specs.declared.Answer.TheVariants.{Accepted, Refused}
+use Rattle.rules.specs.Results.{Answer}
+use Rattle.std.specs.Prelude.{Ok, Err}
 use Rattle.rules.specs.declared.Fault.{Fault}
 use Rattle.rules.proofs.Lists.{by_cases, and_left, and_right, and_both}
 use Rattle.rules.proofs.Lasting.{refused_hands}
@@ -27,7 +27,7 @@ use Rattle.lent.specs.declared.Carried.{Carried}
 use Rattle.lent.specs.declared.Called.{Called}
 use Rattle.call_step.specs.Calls.{judged, outcome_of, answer_to, handed_by, Stepping}
 use Rattle.call_step.specs.Running.{Running, StepRun, step_sized}
-use Rattle.call_step.specs.declared.RanFrame.{RanFrame}
+use Rattle.lent_entries.specs.declared.Ran.{Ran}
 use Rattle.call_step.proofs.Sizes.{sizes}
 
 -- ---- what the paper said
@@ -38,17 +38,17 @@ spoken (some s) frame o e = (s, refl, cc)
 spoken none frame o e = let z : ◌≡◌ {A = ℕ} 0 1 = cc in absurd (omega arith)
 
 -- a refusal hands out nothing, code 1 neither
-refused_hands_nothing : (x : Option State) (frame : List ℤ) (e : Fault) → answer_to (judged true x frame) ≡ Refused e →
+refused_hands_nothing : (x : Option State) (frame : List ℤ) (e : Fault) → answer_to (judged true x frame) ≡ Err e →
     handed_by (judged true x frame) ≡ untouched
 refused_hands_nothing (some s) frame e q = refused_hands s frame e q
 refused_hands_nothing none frame e q = refl
 
 -- a refused frame, SAT and UNSAT are no accepted changes
 no_change : (p : Parsed) (a : Answer) → is_change p ≡ false → altered p a ≡ false
-no_change p (Accepted n) e = e
-no_change p (Refused x) e = refl
+no_change p (Ok n) e = e
+no_change p (Err x) e = refl
 
-module _ (entries : List Entry) (pool : List ℤ) (c : Carried) (frame : List ℤ) (model : List ℕ) (r : RanFrame) (rows' : List Row) (entries' : List Entry)
+module _ (entries : List Entry) (pool : List ℤ) (c : Carried) (frame : List ℤ) (model : List ℕ) (r : Ran Called) (rows' : List Row) (entries' : List Entry)
     (pool' : List ℤ) (model' : List ℕ)
     (ran : StepRun (length entries) (taken entries c.count) pool c frame model r rows' pool' model')
     (put : entries' ≡ over entries (map entry_of (take r.count rows'))) (put_rows : map row_of entries' ≡ over (map row_of entries) (take r.count rows'))
@@ -79,14 +79,14 @@ module _ (entries : List Entry) (pool : List ℤ) (c : Carried) (frame : List �
     said_so = let b = buffer in let e = own_is in rw (b, e)
 
     -- nothing goes back where the frame was no accepted change, or the rows were no state
-    unaltered : altered (parse frame) r.called.answer ≡ false → (entries' ≡ entries) × (pool' ≡ pool) × (r.called.carried ≡ c)
+    unaltered : altered (parse frame) r.given.answer ≡ false → (entries' ≡ entries) × (pool' ≡ pool) × (r.given.carried ≡ c)
     unaltered n = by_state own refl
       where
-        by_state : (x : Option State) → own ≡ x → (entries' ≡ entries) × (pool' ≡ pool) × (r.called.carried ≡ c)
+        by_state : (x : Option State) → own ≡ x → (entries' ≡ entries) × (pool' ≡ pool) × (r.given.carried ≡ c)
         by_state (some s) e = put_unaltered entries entries' (run.back s e) put n
-        by_state none e = let q = run.left e in (none_put (ap (λ (y : RanFrame). y.count) q.0), q.1, ap (λ (y : RanFrame). y.called.carried) q.0)
+        by_state none e = let q = run.left e in (none_put (ap (λ (y : Ran Called). y.count) q.0), q.1, ap (λ (y : Ran Called). y.given.carried) q.0)
 
-    in_range : Stepping entries pool c frame model r.called entries' pool' model'
+    in_range : Stepping entries pool c frame model r.given entries' pool' model'
     in_range = record {
       answered = run.answered ∙ sym (ap answer_to said_so);
       state = λ o e.
@@ -99,7 +99,7 @@ module _ (entries : List Entry) (pool : List ℤ) (c : Carried) (frame : List �
           let u = unaltered (ap (altered (parse frame)) q) in
           let h = refused_hands_nothing own frame e (sym run.answered ∙ q) in
           (u.0, u.1, u.2, subst (λ x. ModelWritten x model model') h run.handed);
-      tables_left = λ n. unaltered (no_change (parse frame) r.called.answer n);
+      tables_left = λ n. unaltered (no_change (parse frame) r.given.answer n);
     }
 
   -- ---- out of range
@@ -110,13 +110,13 @@ module _ (entries : List Entry) (pool : List ℤ) (c : Carried) (frame : List �
         (λ b. by_cases (lent (length entries) (length pool)) (λ l. absurd (true≢false (sym (and_both l b) ∙ f))) (λ l. rw (b, l)))
         (λ b. rw b)
 
-    out_of_range : Stepping entries pool c frame model r.called entries' pool' model'
+    out_of_range : Stepping entries pool c frame model r.given entries' pool' model'
     out_of_range =
         let q = ran.refused f in
         let e = q.0 in
         let u = unsaid in
-        let same = none_put (ap (λ (x : RanFrame). x.count) e) in
-        let carried = ap (λ (x : RanFrame). x.called.carried) e in
+        let same = none_put (ap (λ (x : Ran Called). x.count) e) in
+        let carried = ap (λ (x : Ran Called). x.given.carried) e in
         record {
           answered = rw (e, u);
           state = λ o d. let z : ◌≡◌ {A = ℕ} 0 1 = cc in absurd (omega arith);
@@ -126,7 +126,7 @@ module _ (entries : List Entry) (pool : List ℤ) (c : Carried) (frame : List �
           tables_left = λ n. (same, q.1, carried);
         }
 
-  pub steps_lent : Stepping entries pool c frame model r.called entries' pool' model'
+  pub steps_lent : Stepping entries pool c frame model r.given entries' pool' model'
   steps_lent = by_cases (step_sized (length entries) pool model) in_range out_of_range
 
 -- ---- what the promise leaves
@@ -139,5 +139,5 @@ pub unaltered_left : {entries : List Entry} {pool : List ℤ} {c : Carried} {fra
 unaltered_left {entries} {pool} {c} {frame} {r = r} {entries' = entries'} {pool' = pool'} s n = by_answer r.answer refl n
   where
     by_answer : (a : Answer) → r.answer ≡ a → altered (parse frame) a ≡ false → (entries' ≡ entries) × (pool' ≡ pool) × (r.carried ≡ c)
-    by_answer (Accepted k) e u = s.tables_left u
-    by_answer (Refused x) e u = let l = s.refused x e in (l.0, l.1, l.2)
+    by_answer (Ok k) e u = s.tables_left u
+    by_answer (Err x) e u = let l = s.refused x e in (l.0, l.1, l.2)

@@ -4,10 +4,9 @@ use Rattle.std.proofs.Math.Option.{Option, none, some}
 use Rattle.rules.specs.Terms.{State}
 use Rattle.rules.specs.Frames.{parse}
 use Rattle.rules.specs.Answers.{Handed, untouched, Outcome, numbers, outcome, is_change, check_open, opened}
-use Rattle.rules.specs.declared.Answer.{Answer}
-use Rattle.rules.specs.declared.Answer.TheVariants.{Refused}
-use Rattle.rules.specs.declared.Check.{Check}
-use Rattle.rules.specs.declared.Check.TheVariants.{Passed, Failed}
+use Rattle.rules.specs.Results.{Answer}
+use Rattle.std.specs.Prelude.{Ok, Err}
+use Rattle.rules.specs.Results.{Check}
 use Rattle.rules.specs.declared.Fault.{Fault}
 use Rattle.rules.specs.declared.Fault.TheVariants.{NoState}
 use Rattle.step_answers.specs.Answered.{ModelWritten}
@@ -22,12 +21,12 @@ use Rattle.lent_open.specs.Opened.{opened_with}
 -- "Opening .. gives 1 for lent sizes only and then 3, both writing nothing; else 0, detail 0, and an empty state with highest id 0, whatever the tables held"
 pub record Opening (vars : ℕ) (entries : List Entry) (pool : List ℤ) (r : Called) : Type 0 where
   pub called : r ≡ opened_with vars (check_open vars (length entries) (length pool))
-  pub state : check_open vars (length entries) (length pool) ≡ Passed → state_lent entries pool r.carried ≡ some (opened vars (length entries) (length pool))
+  pub state : check_open vars (length entries) (length pool) ≡ Ok tt → state_lent entries pool r.carried ≡ some (opened vars (length entries) (length pool))
 
 -- its code and detail
 abbrev pub opening_numbers : Check → ℕ × ℕ
-opening_numbers Passed = (0, 0)
-opening_numbers (Failed e) = numbers (Refused e)
+opening_numbers (Ok tt) = (0, 0)
+opening_numbers (Err e) = numbers (Err e)
 
 -- ---- step
 
@@ -39,7 +38,7 @@ judged false s frame = none
 
 abbrev pub answer_to : Option Outcome → Answer
 answer_to (some o) = o.answer
-answer_to none = Refused NoState
+answer_to none = Err NoState
 
 abbrev pub handed_by : Option Outcome → Handed
 handed_by (some o) = o.handed
@@ -62,6 +61,6 @@ pub record Stepping (entries : List Entry) (pool : List ℤ) (c : Carried) (fram
   pub handed : ModelWritten (handed_by (outcome_of entries pool c frame model)) model model'
   pub sized : length model' ≡ length model
   -- "Every code but 0 leaves all tables, V, the highest id and the model buffer as found."
-  pub refused : (e : Fault) → r.answer ≡ Refused e → (entries' ≡ entries) × (pool' ≡ pool) × (r.carried ≡ c) × (model' ≡ model)
+  pub refused : (e : Fault) → r.answer ≡ Err e → (entries' ≡ entries) × (pool' ≡ pool) × (r.carried ≡ c) × (model' ≡ model)
   -- "SAT and UNSAT never write the tables"; nor do words that are no frame
   pub tables_left : is_change (parse frame) ≡ false → (entries' ≡ entries) × (pool' ≡ pool) × (r.carried ≡ c)

@@ -6,33 +6,25 @@ ghost use Rattle.call_step.specs.Calls.{Opening, Stepping};
 ghost use Rattle.call_step.specs.Running.{StepRun, Running, step_left, step_stored};
 
 use lent::{Called, Carried};
-use lent_entries::Entry;
-use lent_load::Loaded;
+use lent_entries::{Entry, Ran};
 use rules::{Answer, Fault};
 use step_outcome::Written;
 use table::{Row, Table};
 
-// What a call comes to, and how many rows are to be put back.
-#[derive(Clone, Copy)]
-struct RanFrame {
-    pub called: Called,
-    pub count: usize,
-}
-
 // Nothing is put back.
-fn left(answer: Answer, c: Carried) -> RanFrame
+fn left(answer: Answer, c: Carried) -> Ran<Called>
     ensures { result ≡ step_left answer c }
 {
-    let called = Called { answer, carried: c };
-    RanFrame { called, count: 0 }
+    let given = Called { answer, carried: c };
+    Ran { given, count: 0 }
 }
 
 // The rows held go back, and what is carried is new.
-fn stored(answer: Answer, t: Table, stack: [u32; 1024]) -> RanFrame
+fn stored(answer: Answer, t: Table, stack: [u32; 1024]) -> Ran<Called>
     ensures { result ≡ step_stored answer t stack }
 {
-    RanFrame {
-        called: Called {
+    Ran {
+        given: Called {
             answer,
             carried: lent::carry(t, stack),
         },
@@ -41,13 +33,19 @@ fn stored(answer: Answer, t: Table, stack: [u32; 1024]) -> RanFrame
 }
 
 // A frame on the rows of what is lent.
-fn run(rows: &mut [Row], pool: &mut [i32], c: Carried, frame: &[i32], model: &mut [u64]) -> RanFrame
+fn run(
+    rows: &mut [Row],
+    pool: &mut [i32],
+    c: Carried,
+    frame: &[i32],
+    model: &mut [u64],
+) -> Ran<Called>
     requires { (length rows.old ≤ 1024) × (length pool.old ≤ 8192) × (length model.old ≡ 32) }
     ensures { Running (length rows.old) rows.old c pool.old frame.now model.old result
         rows.new pool.new model.new }
 {
-    let Loaded::Working(t) = lent_load::load(rows, pool, c) else {
-        return left(Answer::Refused(Fault::NoState), c);
+    let Some(t) = lent_load::load(rows, pool, c) else {
+        return left(Err(Fault::NoState), c);
     };
     let mut stack = c.stack;
     let mut words = [0u64; 32];
@@ -76,7 +74,7 @@ fn run_lent(
     c: Carried,
     frame: &[i32],
     model: &mut [u64],
-) -> RanFrame
+) -> Ran<Called>
     requires { length rows.old ≡ 1280 }
     ensures { StepRun n rows.old pool.old c frame.now model.old result rows.new pool.new
         model.new }
@@ -84,7 +82,7 @@ fn run_lent(
     if lent::in_sizes_with_model(n, pool.len(), model.len()) {
         return run(&mut rows[..n], pool, c, frame, model);
     }
-    left(Answer::Refused(Fault::NoState), c)
+    left(Err(Fault::NoState), c)
 }
 
 // One frame of any words on lent tables of any bits.
@@ -101,7 +99,7 @@ pub fn step(
     let mut rows = lent_entries::take_in(entries, carried.count);
     let r = run_lent(entries.len(), &mut rows, pool, carried, frame, model);
     lent_entries::put_back(entries, r.count, rows);
-    r.called
+    r.given
 }
 
 // Opens the lent tables: it looks at nothing but their sizes, and writes nothing.

@@ -16,8 +16,8 @@ use Rattle.rules.specs.Terms.{in_range, is_clause, State, everything, room}
 use Rattle.rules.specs.Frames.{ADD, framed, framed_if, parse}
 use Rattle.rules.specs.Answers.{◌then◌, need, cleanly, free_entry, free_words, check, settled, outcome, opened}
 use Rattle.rules.specs.Histories.{History, added_by, step, steps}
-use Rattle.rules.specs.declared.Answer.{Answer}
-use Rattle.rules.specs.declared.Answer.TheVariants.{Accepted, Refused}
+use Rattle.rules.specs.Results.{Answer}
+use Rattle.std.specs.Prelude.{Ok, Err}
 use Rattle.rules.specs.declared.Fault.TheVariants.{NoEntry, NoWords}
 use Rattle.rules.proofs.Lists.{and_both, true-false, all_nil, all_cons, all_head, all_tail, all_at, all_of}
 use Rattle.rules.proofs.Checks.{clause_passes}
@@ -104,8 +104,8 @@ frames_answered vars i (c ∷ cs) a s w =
 
 -- an accepted ADD adds its clause; so where all are accepted, all the clauses are added, the newest first
 adds_one : (i : ℕ) (c : List ℤ) (a : Answer) → is_accepted a ≡ true → (cs : List (List ℤ)) → added_by a (framed (ADD i c)) cs ≡ c ∷ cs
-adds_one i c (Accepted n) t cs = refl
-adds_one i c (Refused f) t cs = true-false t refl
+adds_one i c (Ok n) t cs = refl
+adds_one i c (Err f) t cs = true-false t refl
 
 frames_added : (vars i : ℕ) (cs : List (List ℤ)) → all_pass (is_clause vars) cs ≡ true → 0 < i
     → (h : History) → all_pass is_accepted (answers_from h.state (add_frames i cs)) ≡ true → (steps h (add_frames i cs)).added ≡ reverse_aux cs h.added

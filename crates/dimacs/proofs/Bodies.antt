@@ -13,11 +13,9 @@ use Rattle.rules.proofs.Lists.{by_cases, and_left, and_right}
 use Rattle.text.specs.Words.{TextWord, text_words, words_from}
 use Rattle.text.specs.Places.{Behind}
 use Rattle.text.proofs.Rest.{Followed, words_behind, words_behind_first}
-use Rattle.dimacs.specs.Reading.{Read, faulty, sound, expect, expect_number, is_p, is_cnf, clause_word, read_clauses, Cnf, counted, read_behind, count_of}
+use Rattle.dimacs.specs.Reading.{ClauseWord, Wrong, Closing, Literal, Read, faulty, sound, expect, expect_number, is_p, is_cnf, clause_word, read_clauses, Cnf, counted, read_behind, count_of}
 use Rattle.dimacs.specs.Reading.{read_number, read_count, read_vars, read_format, read_problem, read_text, body_words}
 use Rattle.dimacs.specs.Frames.{ClosedClause, by_word, next_clause}
-use Rattle.dimacs.specs.declared.ClauseWord.{ClauseWord}
-use Rattle.dimacs.specs.declared.ClauseWord.TheVariants.{Wrong, Closing, Literal}
 use Rattle.dimacs.specs.declared.TextFault.{TextFault}
 use Rattle.dimacs.specs.declared.TextFault.TheVariants.{MalformedWord, VarsOutOfRange, WrongClauseCount, NoProblemLine}
 use Rattle.dimacs.proofs.Clauses.{unsound, sound_same, expected}

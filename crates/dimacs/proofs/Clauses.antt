@@ -14,10 +14,8 @@ use Rattle.rules.specs.Terms.{in_range, mentions, null}
 use Rattle.rules.proofs.Lists.{by_cases, true-false}
 use Rattle.text.specs.Words.{TextWord}
 use Rattle.text_numbers.specs.Numbers.{integer_of}
-use Rattle.dimacs.specs.Reading.{Read, faulty, sound, expect, is_p, literal_word, number_word, clause_word, take_word, preceded, read_clauses}
+use Rattle.dimacs.specs.Reading.{ClauseWord, Wrong, Closing, Literal, Read, faulty, sound, expect, is_p, literal_word, number_word, clause_word, take_word, preceded, read_clauses}
 use Rattle.dimacs.specs.Frames.{ClosedClause, next_clause}
-use Rattle.dimacs.specs.declared.ClauseWord.{ClauseWord}
-use Rattle.dimacs.specs.declared.ClauseWord.TheVariants.{Wrong, Closing, Literal}
 use Rattle.dimacs.specs.declared.TextFault.{TextFault}
 use Rattle.dimacs.specs.declared.TextFault.TheVariants.{PastDeclared, UnclosedClause}
 

@@ -14,10 +14,8 @@ use Rattle.rules.specs.Terms.{in_range, mentions, distinct, is_clause, null}
 use Rattle.rules.proofs.Lists.{by_cases, not-true, or-false, and_left, and_right, and_both, all_nil, all_cons, all_append, any_last}
 use Rattle.text.specs.Words.{TextWord}
 use Rattle.text_numbers.specs.Numbers.{integer_of}
-use Rattle.dimacs.specs.Reading.{Read, faulty, sound, is_p, literal_word, number_word, clause_word, take_word, preceded, read_clauses, Cnf, read_text}
+use Rattle.dimacs.specs.Reading.{ClauseWord, Wrong, Closing, Literal, Read, faulty, sound, is_p, literal_word, number_word, clause_word, take_word, preceded, read_clauses, Cnf, read_text}
 use Rattle.dimacs.specs.Reading.{body_words}
-use Rattle.dimacs.specs.declared.ClauseWord.{ClauseWord}
-use Rattle.dimacs.specs.declared.ClauseWord.TheVariants.{Wrong, Closing, Literal}
 use Rattle.dimacs.specs.declared.TextFault.{TextFault}
 use Rattle.dimacs.specs.declared.TextFault.TheVariants.{VariableTwice, LongClause, UnclosedClause}
 use Rattle.dimacs.proofs.Clauses.{unsound, sound_same, expected}

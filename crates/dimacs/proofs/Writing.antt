@@ -20,10 +20,9 @@ use Rattle.text.specs.Places.{word_bytes}
 use Rattle.text.proofs.Words.{words_on, line_none, line_plain, whole_blank, whole_line}
 use Rattle.text_numbers.specs.Numbers.{decimal_in, decimal, signed_decimal}
 use Rattle.text_numbers.proofs.Decimals.{natural_decimal, integer_signed, signed_some, signed_whole, signed_uncommented}
-use Rattle.dimacs.specs.Reading.{Read, sound, expect, expect_number, number_word, clause_word, take_word, preceded, read_clauses}
+use Rattle.dimacs.specs.Reading.{Literal, Read, sound, expect, expect_number, number_word, clause_word, take_word, preceded, read_clauses}
 use Rattle.dimacs.specs.Reading.{read_behind, read_number, read_format, read_problem, read_text}
 use Rattle.dimacs.specs.Writing.{clause_text, clauses_text, cnf_text}
-use Rattle.dimacs.specs.declared.ClauseWord.TheVariants.{Literal}
 use Rattle.dimacs.proofs.Words.{word_number}
 
 -- ---- words

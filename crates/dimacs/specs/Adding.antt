@@ -2,12 +2,12 @@
 use Rattle.std.specs.Prelude.{Bool, true, false, ◌||◌, List, [], ◌∷◌, eqb, ℤ}
 use Rattle.rules.specs.Terms.{State}
 use Rattle.rules.specs.Answers.{numbers, outcome}
-use Rattle.rules.specs.declared.Answer.{Answer}
-use Rattle.rules.specs.declared.Answer.TheVariants.{Accepted, Refused}
+use Rattle.rules.specs.Results.{Answer}
+use Rattle.std.specs.Prelude.{Ok, Err}
 
 abbrev pub is_accepted : Answer → Bool
-is_accepted (Accepted n) = true
-is_accepted (Refused e) = false
+is_accepted (Ok n) = true
+is_accepted (Err e) = false
 
 -- "ADD's own refusals 12 and 13 stand": accepted, or refused with one of these two codes
 abbrev pub unless_full : Answer → Bool

@@ -2,9 +2,7 @@
 use Rattle.std.specs.Prelude.{cond, List, [], ◌∷◌, ◌++◌, ℕ, ◌+◌, ltb, ℤ, pos, length}
 use Rattle.std.proofs.Math.Option.{Option, none, some}
 use Rattle.text.specs.Words.{TextWord}
-use Rattle.dimacs.specs.Reading.{Read, faulty, sound, Cnf, clause_word}
-use Rattle.dimacs.specs.declared.ClauseWord.{ClauseWord}
-use Rattle.dimacs.specs.declared.ClauseWord.TheVariants.{Wrong, Closing, Literal}
+use Rattle.dimacs.specs.Reading.{ClauseWord, Wrong, Closing, Literal, Read, faulty, sound, Cnf, clause_word}
 
 -- "1 ADD | id, literals"
 abbrev pub add_frame : ℕ → List ℤ → List ℤ

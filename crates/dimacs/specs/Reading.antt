@@ -1,13 +1,10 @@
 -- Document 02, request 1: from any bytes to V and clauses, or to the first fault. A text is read word by word; the first faulty word decides.
-use Rattle.std.specs.Prelude.{Bool, true, false, not, cond, ◌&&◌, List, [], ◌∷◌, ◌++◌, ℕ, zero, suc, eqb, ltb, leb, ℤ, pos, negsuc, nat_abs, length, drop}
+use Rattle.std.specs.Prelude.{Bool, true, false, not, cond, ◌&&◌, List, [], ◌∷◌, ◌++◌, ℕ, zero, suc, eqb, ltb, leb, ℤ, pos, negsuc, nat_abs, length, drop, Result, Ok, Err}
 use Rattle.std.proofs.Math.Option.{Option, none, some}
 use Rattle.rules.specs.Terms.{in_range, mentions, null}
 use Rattle.text.specs.Words.{TextWord, text_words}
 use Rattle.text_numbers.specs.Numbers.{natural_of, integer_of}
-use Rattle.dimacs.specs.declared.ClauseWord.{ClauseWord}
-use Rattle.dimacs.specs.declared.ClauseWord.TheVariants.{Wrong, Closing, Literal}
-use Rattle.dimacs.specs.declared.TextAnswer.{TextAnswer}
-use Rattle.dimacs.specs.declared.TextAnswer.TheVariants.{Sound, Faulty}
+use Rattle.dimacs.specs.declared.TextCounts.{TextCounts}
 use Rattle.dimacs.specs.declared.TextFault.{TextFault}
 use Rattle.dimacs.specs.declared.TextFault.TheVariants.{NoProblemLine, SecondProblemLine, MalformedWord, PastDeclared, VariableTwice, LongClause}
 use Rattle.dimacs.specs.declared.TextFault.TheVariants.{VarsOutOfRange, UnclosedClause, WrongClauseCount}
@@ -62,6 +59,13 @@ is_cnf w = spells (99 ∷ 110 ∷ 102 ∷ []) w.bytes
 
 -- ---- "clauses closed by 0"
 
+-- What a word behind the problem line is by itself: a fault, the 0 that closes a clause, or a literal. It stays a type of its own: no code hands it on, and an
+-- optional literal in a `Result` would not say that none is the 0.
+pub data ClauseWord : Type 0 where
+  Wrong : TextFault → ClauseWord
+  Closing : ClauseWord
+  Literal : ℤ → ClauseWord
+
 -- a literal by itself: "a literal past the declared count"
 abbrev pub literal_word : ℕ → ℕ → ℤ → ClauseWord
 literal_word vars at l = cond (in_range vars l) (Literal l) (Wrong (PastDeclared at))
@@ -72,7 +76,7 @@ number_word vars at (some (pos zero)) = Closing
 number_word vars at (some (pos (suc n))) = literal_word vars at (pos (suc n))
 number_word vars at (some (negsuc n)) = literal_word vars at (negsuc n)
 
--- What a word behind the problem line is by itself. The word p as the first of a line is a second problem line.
+-- The word p as the first of a line is a second problem line.
 unfoldable pub clause_word : ℕ → TextWord → ClauseWord
 clause_word vars w = cond (w.first && is_p w) (Wrong (SecondProblemLine w.at)) (number_word vars w.at (integer_of w.bytes))
 
@@ -145,6 +149,6 @@ body_words text = drop 4 (text_words text)
 -- ---- what is told of a text
 
 -- V and the number of clauses, or the fault
-abbrev pub judged_text : Read Cnf → TextAnswer
-judged_text (faulty f) = Faulty f
-judged_text (sound x) = Sound x.vars (length x.clauses)
+abbrev pub judged_text : Read Cnf → Result TextCounts TextFault
+judged_text (faulty f) = Err f
+judged_text (sound x) = Ok (record { vars = x.vars; clauses = length x.clauses })

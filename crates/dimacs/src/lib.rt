@@ -15,17 +15,9 @@ pub enum TextFault {
     WrongClauseCount(usize),
 }
 
-// What a word behind the problem line is by itself: a fault, the 0 that closes a clause, or a literal.
+// What is told of a text without fault: V and the number of its clauses.
 #[derive(Clone, Copy)]
-pub enum ClauseWord {
-    Wrong(TextFault),
-    Closing,
-    Literal(i32),
-}
-
-// What is told of a text: V and the number of its clauses, or its first fault.
-#[derive(Clone, Copy)]
-pub enum TextAnswer {
-    Sound(u32, usize),
-    Faulty(TextFault),
+pub struct TextCounts {
+    pub vars: u32,
+    pub clauses: usize,
 }

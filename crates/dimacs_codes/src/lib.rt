@@ -28,14 +28,14 @@ pub fn position(fault: TextFault) -> usize
     ensures { result ≡ (fault_numbers fault).1 }
 {
     match fault {
-        TextFault::NoProblemLine(at) => at,
-        TextFault::SecondProblemLine(at) => at,
-        TextFault::MalformedWord(at) => at,
-        TextFault::PastDeclared(at) => at,
-        TextFault::VariableTwice(at) => at,
-        TextFault::LongClause(at) => at,
-        TextFault::VarsOutOfRange(at) => at,
-        TextFault::UnclosedClause(at) => at,
-        TextFault::WrongClauseCount(at) => at,
+        TextFault::NoProblemLine(at)
+        | TextFault::SecondProblemLine(at)
+        | TextFault::MalformedWord(at)
+        | TextFault::PastDeclared(at)
+        | TextFault::VariableTwice(at)
+        | TextFault::LongClause(at)
+        | TextFault::VarsOutOfRange(at)
+        | TextFault::UnclosedClause(at)
+        | TextFault::WrongClauseCount(at) => at,
     }
 }

@@ -22,10 +22,12 @@ use Rattle.text_numbers.specs.Told.{ends_word}
 use Rattle.dimacs.specs.Reading.{Read, faulty, sound, Cnf, read_text, body_words, judged_text}
 use Rattle.dimacs.specs.Frames.{add_frame, ClosedClause, next_clause}
 use Rattle.dimacs.specs.declared.TextFault.{TextFault}
-use Rattle.dimacs.specs.declared.TextAnswer.TheVariants.{Sound, Faulty as TextFaulty}
+use Rattle.dimacs.specs.declared.TextCounts.{TextCounts}
 use Rattle.dimacs_frames.specs.Yields.{words_left, yield_clause, yield_first, into, yields_into}
 use Rattle.dimacs_frames.specs.declared.Cursor.{Cursor}
-use Rattle.dimacs_frames.specs.declared.Yield.TheVariants.{Frame, NoneLeft, Faulty, NoBuffer, NoId}
+use Rattle.dimacs_frames.specs.Yielding.{yielded}
+use Rattle.std.specs.Prelude.{Ok, None, Err}
+use Rattle.dimacs_frames.specs.declared.YieldError.TheVariants.{Faulty, NoBuffer, NoId}
 
 -- its first two words, then its literals
 pub frame_over : (frame : List ℤ) (id : ℕ) (lits : List ℤ) → id ≤ 2147483647
@@ -38,27 +40,27 @@ frame_over frame id lits h =
 -- ---- what is told of the next clause
 
 module _ (frame : List ℤ) (id : ℕ) where
-  pub yield_none : (o : Option ClosedClause) → o ≡ none → (NoneLeft, frame) ≡ into frame (yield_clause id o)
+  pub yield_none : (o : Option ClosedClause) → o ≡ none → (Ok None, frame) ≡ into frame (yield_clause id o)
   yield_none o e = rw e
 
   module _ (n end : ℕ) (lits : List ℤ) (ws : List TextWord) (o : Option ClosedClause)
       (e : o ≡ some (record { lits = take n lits; behind = end; rest = ws })) where
-    pub yield_unnamed : 2147483647 ≤ id → (NoId, frame) ≡ into frame (yield_clause id o)
+    pub yield_unnamed : 2147483647 ≤ id → (Err NoId, frame) ≡ into frame (yield_clause id o)
     yield_unnamed h = rw (e, le-ltb id 2147483647 h)
 
     pub yield_frame : id < 2147483647 → n ≤ length lits → (frame' : List ℤ) → frame' ≡ over frame (add_frame (id + 1) (take n lits))
-        → (Frame (2 + n) (record { at = end; id = id + 1 }), frame') ≡ into frame (yield_clause id o)
+        → (yielded (2 + n) (record { at = end; id = id + 1 }), frame') ≡ into frame (yield_clause id o)
     yield_frame h k frame' f = rw (e, lt-ltb id 2147483647 h, length-take-le n lits k, f)
 
 -- ---- the first clause of a text
 
 module _ (text : List ℕ) where
   -- the text was judged faulty
-  pub first_faulty : (frame : List ℤ) {f : TextFault} (r : Read Cnf) → TextFaulty f ≡ judged_text r → (Faulty f, frame) ≡ into frame (yield_first text r)
+  pub first_faulty : (frame : List ℤ) {f : TextFault} (r : Read Cnf) → Err f ≡ judged_text r → (Err (Faulty f), frame) ≡ into frame (yield_first text r)
   first_faulty frame {f} (faulty g) e = let same : f ≡ g = cc in rw same
   first_faulty frame (sound x) e = let z : ◌≡◌ {A = ℕ} 0 1 = cc in absurd (omega arith)
 
-  pub first_clause : {vars n : ℕ} (r : Read Cnf) → Sound vars n ≡ judged_text r → (ws : List TextWord) → ws ≡ body_words text
+  pub first_clause : {n : TextCounts} (r : Read Cnf) → Ok n ≡ judged_text r → (ws : List TextWord) → ws ≡ body_words text
       → yield_clause 0 (next_clause [] ws) ≡ yield_first text r
   first_clause (faulty f) e ws b = let z : ◌≡◌ {A = ℕ} 0 1 = cc in absurd (omega arith)
   first_clause (sound x) e ws b = rw b
@@ -89,7 +91,7 @@ module _ (text : List ℕ) where
     stands_behind e h = sym (ap ends_word (from_index text at 0 h)) ∙ e
 
   module _ (c : Cursor) (frame : List ℤ) where
-    pub into_short : length frame < 258 → (NoBuffer, frame) ≡ yields_into text c frame
+    pub into_short : length frame < 258 → (Err NoBuffer, frame) ≡ yields_into text c frame
     into_short h = rw (lt-ltb (length frame) 258 h)
 
     module _ (h : 258 ≤ length frame) where
@@ -100,7 +102,7 @@ module _ (text : List ℕ) where
         pub into_on : yields_into text c frame ≡ into frame (yield_clause c.id (next_clause [] (words_left text c.at)))
         into_on = rw (le-ltb (length frame) 258 h, ne_eqb c.id 0 e)
 
-        pub into_none : next_clause [] (words_left text c.at) ≡ none → (NoneLeft, frame) ≡ yields_into text c frame
+        pub into_none : next_clause [] (words_left text c.at) ≡ none → (Ok None, frame) ≡ yields_into text c frame
         into_none n = yield_none frame c.id (next_clause [] (words_left text c.at)) n ∙ sym into_on
 
         pub into_next : ends_word (drop c.at text) ≡ true

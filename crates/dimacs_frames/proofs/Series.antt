@@ -23,10 +23,17 @@ use Rattle.dimacs_frames.proofs.Frames.{left_behind, behind_ends}
 use Rattle.dimacs_frames.specs.Yields.{words_left, yield_clause, yield_first, yields, into, yields_into}
 use Rattle.dimacs_frames.specs.Series.{Series, no_frame, then_frame, Leads}
 use Rattle.dimacs_frames.specs.declared.Cursor.{Cursor}
-use Rattle.dimacs_frames.specs.declared.Yield.{Yield}
-use Rattle.dimacs_frames.specs.declared.Yield.TheVariants.{Frame, NoneLeft, Faulty, NoBuffer}
+use Rattle.dimacs_frames.specs.declared.Yielded.{Yielded}
+use Rattle.dimacs_frames.specs.Yielding.{Yield, yielded}
+use Rattle.std.specs.Prelude.{Ok, None, Err}
+use Rattle.dimacs_frames.specs.declared.YieldError.TheVariants.{Faulty, NoBuffer}
 
 -- ---- what a call tells and hands out does not lean on its buffer
+
+pub yielded_same : {n m : ℕ} {d e : Cursor} → ◌≡◌ {A = Yield} (yielded n d) (yielded m e) → (n ≡ m) × (d ≡ e)
+yielded_same {n} {m} {d} {e} q =
+    let same : ◌≡◌ {A = Yielded} (record { words = n; behind = d }) (record { words = m; behind = e }) = cc in
+    (ap (λ (y : Yielded). y.words) same, ap (λ (y : Yielded). y.behind) same)
 
 -- a frame has as many words as is told, 2 to 258, and the next id behind this one
 pub record FrameOf (id n : ℕ) (d : Cursor) (ws : List ℤ) : Type 0 where
@@ -37,15 +44,16 @@ pub record FrameOf (id n : ℕ) (d : Cursor) (ws : List ℤ) : Type 0 where
   pub left : id < 2147483647
 
 abbrev Framed : ℕ → Yield × List ℤ → Type 0
-Framed id (r, ws) = (n : ℕ) (d : Cursor) → r ≡ Frame n d → FrameOf id n d ws
+Framed id (r, ws) = (n : ℕ) (d : Cursor) → r ≡ yielded n d → FrameOf id n d ws
 
 clause_framed : (id : ℕ) (ws : List TextWord) (o : Option ClosedClause) → next_clause [] ws ≡ o → Framed id (yield_clause id o)
 clause_framed id ws none q = λ n d e. let z : ◌≡◌ {A = ℕ} 0 1 = cc in absurd (omega arith)
 clause_framed id ws (some x) q = by_cases (ltb id 2147483647)
     (λ t.
     rw t (λ n d e.
-    let many : n ≡ 2 + length x.lits = cc in
-    let named : d.id ≡ id + 1 = cc in
+    let same = yielded_same e in
+    let many : n ≡ 2 + length x.lits = sym same.0 in
+    let named : d.id ≡ id + 1 = ap (λ (b : Cursor). b.id) (sym same.1) in
     let few = clause_short ws [] (omega arith) q in
     record { counted = omega arith; worded = omega arith; short = omega arith; named = named; left = ltb-true id 2147483647 t }))
     (λ f. rw f (λ n d e. let z : ◌≡◌ {A = ℕ} 0 1 = cc in absurd (omega arith)))
@@ -68,16 +76,16 @@ module _ (text : List ℕ) (c : Cursor) where
   told frame frame' r e h = ap (λ (x : Yield × List ℤ). x.0) (e ∙ enough frame h)
 
   -- a call that does has a buffer of enough words
-  fits : (frame frame' : List ℤ) (n : ℕ) (d : Cursor) → (Frame n d, frame') ≡ yields_into text c frame → 258 ≤ length frame
+  fits : (frame frame' : List ℤ) (n : ℕ) (d : Cursor) → (yielded n d, frame') ≡ yields_into text c frame → 258 ≤ length frame
   fits frame frame' n d e = by_cases (ltb (length frame) 258)
       (λ t.
-      let short : (Frame n d, frame') ≡ (NoBuffer, frame) = rw t at e in
-      let none : ◌≡◌ {A = Yield} (Frame n d) NoBuffer = ap (λ (x : Yield × List ℤ). x.0) short in
+      let short : (yielded n d, frame') ≡ (Err NoBuffer, frame) = rw t at e in
+      let none : ◌≡◌ {A = Yield} (yielded n d) (Err NoBuffer) = ap (λ (x : Yield × List ℤ). x.0) short in
       let z : ◌≡◌ {A = ℕ} 0 1 = cc in
       absurd (omega arith))
       (λ f. ltb-false (length frame) 258 f)
 
-  handed : (frame frame' : List ℤ) (n : ℕ) (d : Cursor) → (Frame n d, frame') ≡ yields_into text c frame → take n frame' ≡ (yields text c).1
+  handed : (frame frame' : List ℤ) (n : ℕ) (d : Cursor) → (yielded n d, frame') ≡ yields_into text c frame → take n frame' ≡ (yields text c).1
   handed frame frame' n d e =
       let all = e ∙ enough frame (fits frame frame' n d e) in
       let many = (framed text c n d (sym (ap (λ (x : Yield × List ℤ). x.0) all))).counted in
@@ -92,7 +100,7 @@ pub record HandedOut (c : Cursor) (frame : List ℤ) (n : ℕ) (d : Cursor) (fra
   pub last : d.id ≤ 2147483647
   pub wide : length frame' ≡ length frame
 
-pub handed_out : (text : List ℕ) (c : Cursor) (frame frame' : List ℤ) (n : ℕ) (d : Cursor) → (Frame n d, frame') ≡ yields_into text c frame
+pub handed_out : (text : List ℕ) (c : Cursor) (frame frame' : List ℤ) (n : ℕ) (d : Cursor) → (yielded n d, frame') ≡ yields_into text c frame
     → HandedOut c frame n d frame'
 handed_out text c frame frame' n d e =
     let h = fits text c frame frame' n d e in
@@ -114,7 +122,7 @@ leads_none text c = λ gs r s. s
 
 -- one frame more
 pub leads_on : {text : List ℕ} {c d : Cursor} (fs : List (List ℤ)) → Leads text c fs d → (frame : List ℤ) (n : ℕ) (e : Cursor) (frame' : List ℤ)
-    → (Frame n e, frame') ≡ yields_into text d frame → Leads text c (fs ++ (take n frame' ∷ [])) e
+    → (yielded n e, frame') ≡ yields_into text d frame → Leads text c (fs ++ (take n frame' ∷ [])) e
 leads_on fs l frame n e frame' q = λ gs r s. let whole = l _ r (then_frame frame n e frame' q s) in rw (append_assoc fs (take n frame' ∷ []) gs) whole
 
 -- no frame more
@@ -123,20 +131,17 @@ leads_end fs l {r} s = let whole = l [] r s in rw (append-nil fs) at whole
 
 -- ---- any two series from one cursor agree
 
-frame_same : {n m : ℕ} {d e : Cursor} → ◌≡◌ {A = Yield} (Frame n d) (Frame m e) → d ≡ e
-frame_same q = cc
-
 pub series_agree : {text : List ℕ} {c : Cursor} {fs gs : List (List ℤ)} {r q : Yield} → Series text c fs r → Series text c gs q → (fs ≡ gs) × (r ≡ q)
 series_agree {text} {c} (no_frame frame r frame' e h last) (no_frame other q other' u k last₂) =
     (refl, told text c frame frame' r e h ∙ sym (told text c other other' q u k))
 series_agree {text} {c} (no_frame frame r frame' e h last) (then_frame other n d other' u more) =
-    absurd (last n d (told text c frame frame' r e h ∙ sym (told text c other other' (Frame n d) u (fits text c other other' n d u))))
+    absurd (last n d (told text c frame frame' r e h ∙ sym (told text c other other' (yielded n d) u (fits text c other other' n d u))))
 series_agree {text} {c} (then_frame frame n d frame' e more) (no_frame other q other' u k last) =
-    absurd (last n d (told text c other other' q u k ∙ sym (told text c frame frame' (Frame n d) e (fits text c frame frame' n d e))))
+    absurd (last n d (told text c other other' q u k ∙ sym (told text c frame frame' (yielded n d) e (fits text c frame frame' n d e))))
 series_agree {text} {c} (then_frame frame n d frame' e more) (then_frame other m b other' u more₂) =
-    let here = told text c frame frame' (Frame n d) e (fits text c frame frame' n d e) in
-    let there = told text c other other' (Frame m b) u (fits text c other other' m b u) in
-    let same : d ≡ b = frame_same (here ∙ sym there) in
+    let here = told text c frame frame' (yielded n d) e (fits text c frame frame' n d e) in
+    let there = told text c other other' (yielded m b) u (fits text c other other' m b u) in
+    let same : d ≡ b = (yielded_same (here ∙ sym there)).1 in
     let rest = series_agree more (rw (sym same) at more₂) in
     (ap₂ (λ (f : List ℤ) (fs : List (List ℤ)). f ∷ fs) (handed text c frame frame' n d e ∙ sym (handed text c other other' m b u)) rest.0, rest.1)
 
@@ -147,18 +152,18 @@ abbrev buffer : List ℤ
 buffer = replicate 258 (pos 0)
 
 module _ (text : List ℕ) where
-  ended : (c : Cursor) (r : Yield) → yields text c ≡ (r, []) → ((n : ℕ) (d : Cursor) → r ≡ Frame n d → ⊥) → Series text c [] r
+  ended : (c : Cursor) (r : Yield) → yields text c ≡ (r, []) → ((n : ℕ) (d : Cursor) → r ≡ yielded n d → ⊥) → Series text c [] r
   ended c r e last = no_frame buffer r buffer (ap (into buffer) (sym e) ∙ sym (enough text c buffer (omega arith))) (omega arith) last
 
-  more : (c : Cursor) (n : ℕ) (d : Cursor) (ws : List ℤ) → yields text c ≡ (Frame n d, ws) → {fs : List (List ℤ)} {r : Yield} → Series text d fs r
+  more : (c : Cursor) (n : ℕ) (d : Cursor) (ws : List ℤ) → yields text c ≡ (yielded n d, ws) → {fs : List (List ℤ)} {r : Yield} → Series text d fs r
       → Series text c (ws ∷ fs) r
   more c n d ws e s =
-      let call : (Frame n d, over buffer ws) ≡ yields_into text c buffer = ap (into buffer) (sym e) ∙ sym (enough text c buffer (omega arith)) in
+      let call : (yielded n d, over buffer ws) ≡ yields_into text c buffer = ap (into buffer) (sym e) ∙ sym (enough text c buffer (omega arith)) in
       let words : take n (over buffer ws) ≡ ws = handed text c buffer (over buffer ws) n d call ∙ ap (λ (x : Yield × List ℤ). x.1) e in
       let out : Series text c (take n (over buffer ws) ∷ _) _ = then_frame buffer n d (over buffer ws) call s in
       rw words at out
 
-  no_frame_told : (n : ℕ) (d : Cursor) → NoneLeft ≡ Frame n d → ⊥
+  no_frame_told : (n : ℕ) (d : Cursor) → Ok None ≡ yielded n d → ⊥
   no_frame_told n d e = let z : ◌≡◌ {A = ℕ} 0 1 = cc in omega arith
 
   -- a cursor stands before the words ws
@@ -176,10 +181,10 @@ module _ (text : List ℕ) where
   module _ (vars : ℕ) (few : vars ≤ 2048) where
     series_on : (cs : List (List ℤ)) (c : Cursor) (ws : List TextWord) → Before c ws → read_clauses vars (length text) [] ws ≡ sound cs
         → c.id + length cs ≤ 2147483647
-        → Series text c (add_frames (c.id + 1) cs) NoneLeft
+        → Series text c (add_frames (c.id + 1) cs) (Ok None)
     unfolding add_frames next_clause
     series_on [] c ws b e h = ⊎_elim
-        (λ n. ended c NoneLeft (b.0 ∙ rw n.1) no_frame_told)
+        (λ n. ended c (Ok None) (b.0 ∙ rw n.1) no_frame_told)
         (λ n. let z : ◌≡◌ {A = ℕ} 0 1 = cc in absurd (omega arith))
         (clause_next vars (length text) few ws [] [] e)
     series_on (l ∷ cs) c ws b e h = ⊎_elim
@@ -190,7 +195,7 @@ module _ (text : List ℕ) where
         let first : l ≡ x.lits = cc in
         let rest : cs ≡ n.others = cc in
         let named = lt-ltb c.id 2147483647 (omega arith) in
-        let y : yields text c ≡ (Frame (2 + length l) (record { at = x.behind; id = c.id + 1 }), add_frame (c.id + 1) l) = b.0
+        let y : yields text c ≡ (yielded (2 + length l) (record { at = x.behind; id = c.id + 1 }), add_frame (c.id + 1) l) = b.0
         ∙ rw (n.next, named, first) in
         let next = behind c.id x (clause_behind text ws [] b.1 n.next) in
         more c (2 + length l) _ _ y (series_on cs _ x.rest next (n.read ∙ ap sound (sym rest)) (omega arith)))
@@ -202,7 +207,7 @@ module _ (text : List ℕ) where
     at_first : yields text c ≡ yield_first text (read_text text)
     at_first = rw (eq-eqb c.id 0 fresh)
 
-    pub sound_series : (x : Cnf) → read_text text ≡ sound x → length x.clauses ≤ 2147483647 → Series text c (frames_of (sound x)) NoneLeft
+    pub sound_series : (x : Cnf) → read_text text ≡ sound x → length x.clauses ≤ 2147483647 → Series text c (frames_of (sound x)) (Ok None)
     sound_series x e h =
         let b = text_body text e in
         let y : yields text c ≡ yield_clause c.id (next_clause [] (body_words text)) = at_first ∙ rw (e, fresh) in
@@ -210,14 +215,14 @@ module _ (text : List ℕ) where
         let one : c.id + 1 ≡ 1 = omega arith in
         rw one at all
 
-    pub faulty_series : (f : TextFault) → read_text text ≡ faulty f → Series text c [] (Faulty f)
-    faulty_series f e = ended c (Faulty f) (at_first ∙ rw e) (λ n d q. let z : ◌≡◌ {A = ℕ} 0 1 = cc in omega arith)
+    pub faulty_series : (f : TextFault) → read_text text ≡ faulty f → Series text c [] (Err (Faulty f))
+    faulty_series f e = ended c (Err (Faulty f)) (at_first ∙ rw e) (λ n d q. let z : ◌≡◌ {A = ℕ} 0 1 = cc in omega arith)
 
     -- "with ids 1, 2, 3 and so on", as long as there are ids: exactly the frames of the text, and then none is left
     pub frames_handed_out : (x : Cnf) → read_text text ≡ sound x → length x.clauses ≤ 2147483647 → {fs : List (List ℤ)} {r : Yield} → Series text c fs r
-        → (fs ≡ frames_of (read_text text)) × (r ≡ NoneLeft)
+        → (fs ≡ frames_of (read_text text)) × (r ≡ Ok None)
     frames_handed_out x e h s = rw e (series_agree s (sound_series x e h))
 
     -- "A text with a fault yields no frame"
-    pub no_frame_of_a_fault : (f : TextFault) → read_text text ≡ faulty f → {fs : List (List ℤ)} {r : Yield} → Series text c fs r → (fs ≡ []) × (r ≡ Faulty f)
+    pub no_frame_of_a_fault : (f : TextFault) → read_text text ≡ faulty f → {fs : List (List ℤ)} {r : Yield} → Series text c fs r → (fs ≡ []) × (r ≡ Err (Faulty f))
     no_frame_of_a_fault f e s = series_agree s (faulty_series f e)

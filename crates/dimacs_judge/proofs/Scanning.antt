@@ -6,6 +6,8 @@ use mathlib.Core.Option.{some}
 use Prim.Native.Nat.{ℕ, ◌+◌, ◌-◌, ◌≤◌, ◌<◌}
 use native.Mathlib.Omega.{arith}
 use native.Mathlib.Numerals.{add-one}
+use Rattle.std.specs.Int.{from_bool}
+use Rattle.std.specs.Prelude.{Some, Ok, Err}
 use lib.Dec.{eqb, ltb}
 use lib.IntN.{ℤ, nat_abs}
 use lib.ListN.{length, get_or, take, drop, set, replicate, length-set, length-append, length-drop}
@@ -18,16 +20,16 @@ use Rattle.text.specs.Places.{word_at, Behind}
 use Rattle.text.proofs.Words.{behind_word}
 use Rattle.text_numbers.specs.Numbers.{integer_of}
 use Rattle.text_numbers.specs.Told.{capped, with_sign}
+use Rattle.text_numbers.specs.declared.Integer.{Integer}
 use Rattle.text_next.specs.Next.{NextTold}
 use Rattle.text_next.specs.declared.NextWord.{NextWord}
-use Rattle.dimacs.specs.Reading.{Read, faulty, sound, expect, clause_word, take_word, preceded, read_clauses}
+use Rattle.dimacs.specs.Reading.{Wrong, Closing, Literal, Read, faulty, sound, expect, clause_word, take_word, preceded, read_clauses}
 use Rattle.dimacs.specs.Frames.{next_clause}
-use Rattle.dimacs.specs.declared.ClauseWord.TheVariants.{Wrong, Closing, Literal}
 use Rattle.dimacs.specs.declared.TextFault.{TextFault}
 use Rattle.dimacs.specs.declared.TextFault.TheVariants.{PastDeclared, VariableTwice, LongClause, UnclosedClause}
 use Rattle.dimacs_problem.proofs.Spelling.{word_short}
 use Rattle.dimacs_judge.specs.Told.{StopsTold, ScanAsked, ScanTold}
-use Rattle.dimacs_judge.specs.declared.Scanned.TheVariants.{Closed, Ended, Broken}
+use Rattle.dimacs_judge.specs.declared.Scanned.TheVariants.{Closed, Ended}
 use Rattle.dimacs_judge.proofs.Words.{word_closing, word_past, word_literal, sign_abs}
 use Rattle.dimacs_judge.proofs.Stamping.{Stamped, stamped_none, zero_unstamped, stamped_more, stamped_next}
 
@@ -107,21 +109,14 @@ module _ {all : Bool} {text : List ℕ} {from vars : ℕ} {stamps₀ stamps : Li
   as_long : length (take n lits) ≡ n
   as_long = length-take-le n lits (omega (arith, s.few, s.room))
 
-  pub stamps_size : all ≡ true → length stamps ≡ 2049
-  stamps_size a = of all a s.mode
-    where
-      of : (all : Bool) → all ≡ true → ModeScanning all text from vars stamps stamp (take n lits) i → length stamps ≡ 2049
-      of true a m = m.stamped.size
-      of false a m = true-false a refl
-
   -- ---- no word is left
 
   module _ (e : words_from false i text ≡ []) (lits' : List ℤ) where
-    pub scan_ended : n ≡ 0 → ScanTold all text from vars lits' (Ended (stamp - 1))
+    pub scan_ended : n ≡ 0 → ScanTold all text from vars lits' (Ok (Ended (stamp - 1)))
     unfolding read_clauses next_clause expect
     scan_ended z = of all s.mode
       where
-        of : (all : Bool) → ModeScanning all text from vars stamps stamp (take n lits) i → ScanTold all text from vars lits' (Ended (stamp - 1))
+        of : (all : Bool) → ModeScanning all text from vars stamps stamp (take n lits) i → ScanTold all text from vars lits' (Ok (Ended (stamp - 1)))
         of true m = (
           m.closed,
           m.read ∙ rw (e, z) (before_sound m.closed),
@@ -130,7 +125,7 @@ module _ {all : Bool} {text : List ℕ} {from vars : ℕ} {stamps₀ stamps : Li
         )
         of false m = m.next ∙ rw e
 
-    pub scan_unclosed : (n ≡ 0 → ⊥) → ScanTold all text from vars lits' (Broken (UnclosedClause (length text)))
+    pub scan_unclosed : (n ≡ 0 → ⊥) → ScanTold all text from vars lits' (Err (UnclosedClause (length text)))
     unfolding read_clauses next_clause expect
     scan_unclosed z = of all s.mode
       where
@@ -142,7 +137,7 @@ module _ {all : Bool} {text : List ℕ} {from vars : ℕ} {stamps₀ stamps : Li
         begun = some_literal (take n lits) (omega (arith, as_long))
 
         of : (all : Bool) → ModeScanning all text from vars stamps stamp (take n lits) i
-            → ScanTold all text from vars lits' (Broken (UnclosedClause (length text)))
+            → ScanTold all text from vars lits' (Err (UnclosedClause (length text)))
         of true m = m.read ∙ rw (e, begun) (before_faulty m.closed (UnclosedClause (length text)))
         of false m = m.next ∙ rw e
 
@@ -155,19 +150,19 @@ module _ {all : Bool} {text : List ℕ} {from vars : ℕ} {stamps₀ stamps : Li
     abbrev behind : ℕ
     behind = w.at + length (word_at w.at text)
 
-    pub scan_wrong : w.at < length text → {f : TextFault} (lits' : List ℤ) → clause_word vars next ≡ Wrong f → ScanTold all text from vars lits' (Broken f)
+    pub scan_wrong : w.at < length text → {f : TextFault} (lits' : List ℤ) → clause_word vars next ≡ Wrong f → ScanTold all text from vars lits' (Err f)
     unfolding read_clauses next_clause take_word
     scan_wrong h {f} lits' e = of all s.mode
       where
-        of : (all : Bool) → ModeScanning all text from vars stamps stamp (take n lits) i → ScanTold all text from vars lits' (Broken f)
+        of : (all : Bool) → ModeScanning all text from vars stamps stamp (take n lits) i → ScanTold all text from vars lits' (Err f)
         of true m = m.read ∙ rw (t.next h, e) (before_faulty m.closed f)
         of false m = let e' : clause_word 2048 next ≡ Wrong f = rw m.widest at e in m.next ∙ rw (t.next h, e')
 
     -- ---- a number
 
-    module _ (e : w.read.number ≡ true) where
-      abbrev told : (n : ℕ) × (integer_of (word_at w.at text) ≡ some (with_sign w.read.minus n)) × (w.read.value ≡ capped n) × (w.read.end ≡ behind)
-      told = t.told.number e
+    module _ {r : Integer} (e : w.read ≡ Some r) where
+      abbrev told : (n : ℕ) × (integer_of (word_at w.at text) ≡ some (with_sign r.minus n)) × (r.value ≡ capped n) × (r.end ≡ behind)
+      told = rw e at t.told
 
       some_byte : (bs : List ℕ) (l : ℤ) → integer_of bs ≡ some l → 0 < length bs
       unfolding integer_of
@@ -180,67 +175,67 @@ module _ {all : Bool} {text : List ℕ} {from vars : ℕ} {stamps₀ stamps : Li
       pub number_inside : w.at < length text
       number_inside = omega (arith, bytes, word_short (drop w.at text), length-drop w.at text)
 
-      pub number_onward : i < w.read.end
+      pub number_onward : i < r.end
       number_onward = omega (arith, bytes, told.3, t.low)
 
-      end_inside : w.read.end ≤ length text
+      end_inside : r.end ≤ length text
       end_inside = omega (arith, bytes, told.3, word_short (drop w.at text), length-drop w.at text)
 
-      end_behind : Behind text w.read.end
+      end_behind : Behind text r.end
       end_behind = rw told.3 (behind_word text w.at)
 
-      pub scan_past : vars < w.read.value → (lits' : List ℤ) → ScanTold all text from vars lits' (Broken (PastDeclared w.at))
+      pub scan_past : vars < r.value → (lits' : List ℤ) → ScanTold all text from vars lits' (Err (PastDeclared w.at))
       scan_past h lits' =
           scan_wrong number_inside lits'
-          (word_past vars w.at w.first (word_at w.at text) w.read.minus told.0 told.1 (omega (arith, told.2)))
+          (word_past vars w.at w.first (word_at w.at text) r.minus told.0 told.1 (omega (arith, told.2)))
 
       -- ---- within V
 
-      module _ (few : vars ≤ 2048) (h : w.read.value ≤ vars) where
+      module _ (few : vars ≤ 2048) (h : r.value ≤ vars) where
         abbrev l : ℤ
-        l = with_sign w.read.minus w.read.value
+        l = with_sign r.minus r.value
 
-        closing : w.read.value ≡ 0 → clause_word vars next ≡ Closing
-        closing z = word_closing vars w.at w.first (word_at w.at text) w.read.minus told.0 told.1 (sym told.2 ∙ z)
+        closing : r.value ≡ 0 → clause_word vars next ≡ Closing
+        closing z = word_closing vars w.at w.first (word_at w.at text) r.minus told.0 told.1 (sym told.2 ∙ z)
 
-        literal : (w.read.value ≡ 0 → ⊥) → clause_word vars next ≡ Literal l
+        literal : (r.value ≡ 0 → ⊥) → clause_word vars next ≡ Literal l
         literal z =
-            let q = word_literal vars w.at w.first (word_at w.at text) w.read.minus told.0 told.1 (λ y. z (told.2 ∙ y))
+            let q = word_literal vars w.at w.first (word_at w.at text) r.minus told.0 told.1 (λ y. z (told.2 ∙ y))
             (omega (arith, told.2)) few in
-            q ∙ ap (λ (k : ℕ). Literal (with_sign w.read.minus k)) (sym told.2)
+            q ∙ ap (λ (k : ℕ). Literal (with_sign r.minus k)) (sym told.2)
 
         -- in a clause of all: the variable is in it already, so it is no 0
-        twice : (m : AllScanning text from vars stamps stamp (take n lits) i) → eqb (get_or stamps w.read.value 0) stamp ≡ true
+        twice : (m : AllScanning text from vars stamps stamp (take n lits) i) → eqb (get_or stamps r.value 0) stamp ≡ true
             → read_clauses vars (length text) [] (words_from false from text) ≡ faulty (VariableTwice w.at)
         unfolding read_clauses take_word expect
         twice m q =
-            let some_value : w.read.value ≡ 0 → ⊥ = λ z. true-false q (ap (λ (k : ℕ). eqb (get_or stamps k 0) stamp) z ∙ zero_unstamped m.stamped) in
+            let some_value : r.value ≡ 0 → ⊥ = λ z. true-false q (ap (λ (k : ℕ). eqb (get_or stamps k 0) stamp) z ∙ zero_unstamped m.stamped) in
             let again : mentions (take n lits) (nat_abs l) ≡ true =
-            rw (sign_abs w.read.minus w.read.value) (sym (m.stamped.same w.read.value (omega (arith, some_value)) (omega arith)) ∙ q) in
+            rw (sign_abs r.minus r.value) (sym (m.stamped.same r.value (omega (arith, some_value)) (omega arith)) ∙ q) in
             m.read ∙ rw (t.next number_inside, literal some_value, again) (before_faulty m.closed (VariableTwice w.at))
 
-        pub scan_twice : (stamps' : List ℕ) (lits' : List ℤ) → all ≡ true → StopsTold all stamps w.read.value stamp true stamps'
-            → ScanTold all text from vars lits' (Broken (VariableTwice w.at))
+        pub scan_twice : (stamps' : List ℕ) (lits' : List ℤ) → all ≡ true → StopsTold all stamps r.value stamp true stamps'
+            → ScanTold all text from vars lits' (Err (VariableTwice w.at))
         scan_twice stamps' lits' = of all s.mode
           where
             of : (all : Bool) → ModeScanning all text from vars stamps stamp (take n lits) i → all ≡ true
-                → StopsTold all stamps w.read.value stamp true stamps'
-                → ScanTold all text from vars lits' (Broken (VariableTwice w.at))
+                → StopsTold all stamps r.value stamp true stamps'
+                → ScanTold all text from vars lits' (Err (VariableTwice w.at))
             of true m a q = twice m (sym q.told)
             of false m a q = true-false a refl
 
         -- one clause is closed
-        pub scan_closed : (stamps' : List ℕ) → all ≡ false → StopsTold all stamps w.read.value stamp true stamps'
-            → ScanTold all text from vars lits (Closed n w.read.end)
+        pub scan_closed : (stamps' : List ℕ) → all ≡ false → StopsTold all stamps r.value stamp true stamps'
+            → ScanTold all text from vars lits (Ok (Closed n r.end))
         unfolding next_clause
         scan_closed stamps' = of all s.mode
           where
             of : (all : Bool) → ModeScanning all text from vars stamps stamp (take n lits) i → all ≡ false
-                → StopsTold all stamps w.read.value stamp true stamps'
-                → ScanTold all text from vars lits (Closed n w.read.end)
+                → StopsTold all stamps r.value stamp true stamps'
+                → ScanTold all text from vars lits (Ok (Closed n r.end))
             of true m a q = true-false refl a
             of false m a q =
-                let c : clause_word 2048 next ≡ Closing = rw m.widest at (closing (eqb-true w.read.value 0 (sym q.0))) in (
+                let c : clause_word 2048 next ≡ Closing = rw m.widest at (closing (eqb-true r.value 0 (sym q.0))) in (
                   s.few,
                   omega (arith, number_onward, s.low, s.some_stamp),
                   end_inside,
@@ -255,34 +250,34 @@ module _ {all : Bool} {text : List ℕ} {from vars : ℕ} {stamps₀ stamps : Li
         take_on : take (n + 1) lits_on ≡ take n lits ++ (l ∷ [])
         take_on = rw add-one (take-suc-set lits n l (omega (arith, s.few, s.room)))
 
-        once : AllScanning text from vars stamps stamp (take n lits) i → (w.read.value ≡ 0 → ⊥) → eqb (get_or stamps w.read.value 0) stamp ≡ false
+        once : AllScanning text from vars stamps stamp (take n lits) i → (r.value ≡ 0 → ⊥) → eqb (get_or stamps r.value 0) stamp ≡ false
             → mentions (take n lits) (nat_abs l) ≡ false
-        once m z q = rw (sign_abs w.read.minus w.read.value) (sym (m.stamped.same w.read.value (omega (arith, z)) (omega arith)) ∙ q)
+        once m z q = rw (sign_abs r.minus r.value) (sym (m.stamped.same r.value (omega (arith, z)) (omega arith)) ∙ q)
 
-        module _ (stamps' : List ℕ) (q : StopsTold all stamps w.read.value stamp false stamps') where
+        module _ (stamps' : List ℕ) (q : StopsTold all stamps r.value stamp false stamps') where
           stamps_kept : length stamps' ≡ length stamps
           stamps_kept = of all q
             where
-              of : (all : Bool) → StopsTold all stamps w.read.value stamp false stamps' → length stamps' ≡ length stamps
-              of true q = ap length (q.stamped refl) ∙ length-set stamps w.read.value stamp
+              of : (all : Bool) → StopsTold all stamps r.value stamp false stamps' → length stamps' ≡ length stamps
+              of true q = ap length (q.stamped refl) ∙ length-set stamps r.value stamp
               of false q = ap length q.1
 
-          full : (w.read.value ≡ 0 → ⊥) → n ≡ 256 → (lits' : List ℤ) → ScanTold all text from vars lits' (Broken (LongClause w.at))
+          full : (r.value ≡ 0 → ⊥) → n ≡ 256 → (lits' : List ℤ) → ScanTold all text from vars lits' (Err (LongClause w.at))
           unfolding read_clauses next_clause take_word expect
           full z k lits' = of all s.mode q
             where
               long : ltb (length (take n lits)) 256 ≡ false
               long = le-ltb (length (take n lits)) 256 (omega (arith, as_long))
 
-              of : (all : Bool) → ModeScanning all text from vars stamps stamp (take n lits) i → StopsTold all stamps w.read.value stamp false stamps'
-                  → ScanTold all text from vars lits' (Broken (LongClause w.at))
+              of : (all : Bool) → ModeScanning all text from vars stamps stamp (take n lits) i → StopsTold all stamps r.value stamp false stamps'
+                  → ScanTold all text from vars lits' (Err (LongClause w.at))
               of true m q = m.read ∙ rw (t.next number_inside, literal z, once m z (sym q.told), long) (before_faulty m.closed (LongClause w.at))
               of false m q =
                   let c : clause_word 2048 next ≡ Literal l = rw m.widest at (literal z) in
                   m.next ∙ rw (t.next number_inside, c, long)
 
           -- a clause of all is closed: the next begins
-          begun_next : w.read.value ≡ 0 → Scanning all text from vars stamps₀ lits₀ stamps' lits_on (stamp + 1) 0 w.read.end
+          begun_next : r.value ≡ 0 → Scanning all text from vars stamps₀ lits₀ stamps' lits_on (stamp + 1) 0 r.end
           unfolding read_clauses take_word
           begun_next z = record {
             low = omega (arith, number_onward, s.low);
@@ -296,8 +291,8 @@ module _ {all : Bool} {text : List ℕ} {from vars : ℕ} {stamps₀ stamps : Li
             mode = of all s.mode q;
           }
             where
-              of : (all : Bool) → ModeScanning all text from vars stamps stamp (take n lits) i → StopsTold all stamps w.read.value stamp false stamps'
-                  → ModeScanning all text from vars stamps' (stamp + 1) [] w.read.end
+              of : (all : Bool) → ModeScanning all text from vars stamps stamp (take n lits) i → StopsTold all stamps r.value stamp false stamps'
+                  → ModeScanning all text from vars stamps' (stamp + 1) [] r.end
               of true m q = record {
                 closed = m.closed ++ (take n lits ∷ []);
                 many = omega (arith, m.many, length-append m.closed (take n lits ∷ []));
@@ -305,10 +300,10 @@ module _ {all : Bool} {text : List ℕ} {from vars : ℕ} {stamps₀ stamps : Li
                 read = m.read ∙ rw (t.next number_inside, closing z, told.3)
                     (sym (before_snoc m.closed (take n lits) (read_clauses vars (length text) [] (words_from false behind text))));
               }
-              of false m q = true-false (eq-eqb w.read.value 0 z) (sym q.0)
+              of false m q = true-false (eq-eqb r.value 0 z) (sym q.0)
 
           -- a literal more
-          longer : (w.read.value ≡ 0 → ⊥) → n < 256 → Scanning all text from vars stamps₀ lits₀ stamps' lits_on stamp (n + 1) w.read.end
+          longer : (r.value ≡ 0 → ⊥) → n < 256 → Scanning all text from vars stamps₀ lits₀ stamps' lits_on stamp (n + 1) r.end
           unfolding read_clauses next_clause take_word expect
           longer z k = record {
             low = omega (arith, number_onward, s.low);
@@ -325,40 +320,40 @@ module _ {all : Bool} {text : List ℕ} {from vars : ℕ} {stamps₀ stamps : Li
               short : ltb (length (take n lits)) 256 ≡ true
               short = lt-ltb (length (take n lits)) 256 (omega (arith, as_long))
 
-              of : (all : Bool) → ModeScanning all text from vars stamps stamp (take n lits) i → StopsTold all stamps w.read.value stamp false stamps'
-                  → ModeScanning all text from vars stamps' stamp (take n lits ++ (l ∷ [])) w.read.end
+              of : (all : Bool) → ModeScanning all text from vars stamps stamp (take n lits) i → StopsTold all stamps r.value stamp false stamps'
+                  → ModeScanning all text from vars stamps' stamp (take n lits ++ (l ∷ [])) r.end
               of true m q = record {
                 closed = m.closed;
                 many = m.many;
-                stamped = rw (q.stamped refl) (rw (sign_abs w.read.minus w.read.value) at (stamped_more m.stamped l (low_enough) (high_enough)));
+                stamped = rw (q.stamped refl) (rw (sign_abs r.minus r.value) at (stamped_more m.stamped l (low_enough) (high_enough)));
                 read = m.read ∙ rw (t.next number_inside, literal z, once m z (sym q.told), short, told.3);
               }
                 where
                   low_enough : 0 < nat_abs l
-                  low_enough = omega (arith, z, sign_abs w.read.minus w.read.value)
+                  low_enough = omega (arith, z, sign_abs r.minus r.value)
 
                   high_enough : nat_abs l ≤ 2048
-                  high_enough = omega (arith, sign_abs w.read.minus w.read.value)
+                  high_enough = omega (arith, sign_abs r.minus r.value)
               of false m q =
                   let c : clause_word 2048 next ≡ Literal l = rw m.widest at (literal z) in
                   record { widest = m.widest; next = m.next ∙ rw (t.next number_inside, c, short, told.3) }
 
           -- so many literals are read then
-          module _ (k : ℕ) (many : k ≡ cond (eqb w.read.value 0) 0 (n + 1)) where
-            pub scan_long : k ≡ 257 → (lits' : List ℤ) → ScanTold all text from vars lits' (Broken (LongClause w.at))
-            scan_long h lits' = by_cases (eqb w.read.value 0)
+          module _ (k : ℕ) (many : k ≡ cond (eqb r.value 0) 0 (n + 1)) where
+            pub scan_long : k ≡ 257 → (lits' : List ℤ) → ScanTold all text from vars lits' (Err (LongClause w.at))
+            scan_long h lits' = by_cases (eqb r.value 0)
                 (λ z. let none : k ≡ 0 = rw z at many in absurd (omega arith))
-                (λ z. let more : k ≡ n + 1 = rw z at many in full (eqb-false w.read.value 0 z) (omega arith) lits')
+                (λ z. let more : k ≡ n + 1 = rw z at many in full (eqb-false r.value 0 z) (omega arith) lits')
 
-            pub scan_on : (b : ℕ) → b ≡ cond (eqb w.read.value 0) 1 0 → (k ≡ 257 → ⊥)
-                → Scanning all text from vars stamps₀ lits₀ stamps' lits_on (stamp + b) k w.read.end
-            scan_on b closed h = by_cases (eqb w.read.value 0)
+            pub scan_on : (b : ℕ) → b ≡ from_bool (eqb r.value 0) → (k ≡ 257 → ⊥)
+                → Scanning all text from vars stamps₀ lits₀ stamps' lits_on (stamp + b) k r.end
+            scan_on b closed h = by_cases (eqb r.value 0)
                 (λ z.
                 let none : k ≡ 0 = rw z at many in
                 let one : b ≡ 1 = rw z at closed in
-                rw (none, one) (begun_next (eqb-true w.read.value 0 z)))
+                rw (none, one) (begun_next (eqb-true r.value 0 z)))
                 (λ z.
                 let more : k ≡ n + 1 = rw z at many in
                 let begun : b ≡ 0 = rw z at closed in
                 let same : stamp + b ≡ stamp = omega arith in
-                rw (more, same) (longer (eqb-false w.read.value 0 z) (omega (arith, s.few))))
+                rw (more, same) (longer (eqb-false r.value 0 z) (omega (arith, s.few))))

@@ -13,8 +13,7 @@ use mir.Val.{SFits}
 use Rattle.text.specs.Words.{TextWord}
 use Rattle.text_numbers.specs.Numbers.{integer_of}
 use Rattle.text_numbers.specs.Told.{capped, with_sign}
-use Rattle.dimacs.specs.Reading.{spells, number_word, clause_word}
-use Rattle.dimacs.specs.declared.ClauseWord.TheVariants.{Wrong, Closing, Literal}
+use Rattle.dimacs.specs.Reading.{Wrong, Closing, Literal, spells, number_word, clause_word}
 use Rattle.dimacs.specs.declared.TextFault.TheVariants.{SecondProblemLine, MalformedWord, PastDeclared}
 use Rattle.dimacs.proofs.Words.{word_number}
 

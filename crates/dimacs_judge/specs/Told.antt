@@ -1,12 +1,13 @@
 -- What is told of the clauses of a text.
-use Rattle.std.specs.Prelude.{◌≡◌, Bool, true, false, List, [], ℕ, ◌≤◌, ◌<◌, eqb, ℤ, length, get_or, take, set, replicate}
+use Rattle.std.specs.Prelude.{◌≡◌, Bool, true, false, List, [], ℕ, ◌≤◌, ◌<◌, eqb, ℤ, length, get_or, take, set, replicate, Result, Ok, Err}
 use Rattle.std.proofs.Math.Option.{none, some}
 use Rattle.text.specs.Words.{words_from}
 use Rattle.text.specs.Places.{Behind}
 use Rattle.dimacs.specs.Reading.{faulty, sound, read_clauses}
 use Rattle.dimacs.specs.Frames.{next_clause}
+use Rattle.dimacs.specs.declared.TextFault.{TextFault}
 use Rattle.dimacs_judge.specs.declared.Scanned.{Scanned}
-use Rattle.dimacs_judge.specs.declared.Scanned.TheVariants.{Closed, Ended, Broken}
+use Rattle.dimacs_judge.specs.declared.Scanned.TheVariants.{Closed, Ended}
 
 -- ---- a number on the way
 
@@ -32,20 +33,20 @@ pub record ScanAsked (text : List ℕ) (from vars : ℕ) (all : Bool) (stamps : 
   pub room : 257 ≤ length lits
 
 -- the clauses from place `from` on, all of them: their number, or the first fault; a clause takes a byte at least
-abbrev pub AllTold : List ℕ → ℕ → ℕ → Scanned → Type 0
-AllTold text from vars (Closed n end) = ⊥
-AllTold text from vars (Ended n) =
+abbrev pub AllTold : List ℕ → ℕ → ℕ → Result Scanned TextFault → Type 0
+AllTold text from vars (Ok (Closed n end)) = ⊥
+AllTold text from vars (Ok (Ended n)) =
     (cs : List (List ℤ)) × (read_clauses vars (length text) [] (words_from false from text) ≡ sound cs) × (n ≡ length cs) × (n ≤ length text)
-AllTold text from vars (Broken f) = read_clauses vars (length text) [] (words_from false from text) ≡ faulty f
+AllTold text from vars (Err f) = read_clauses vars (length text) [] (words_from false from text) ≡ faulty f
 
 -- the next clause alone; its literals are the first of lits
-abbrev pub OneTold : List ℕ → ℕ → List ℤ → Scanned → Type 0
-OneTold text from lits (Closed n end) =
+abbrev pub OneTold : List ℕ → ℕ → List ℤ → Result Scanned TextFault → Type 0
+OneTold text from lits (Ok (Closed n end)) =
     (n ≤ 256) × (from < end) × (end ≤ length text)
     × (next_clause [] (words_from false from text) ≡ some (record { lits = take n lits; behind = end; rest = words_from false end text }))
-OneTold text from lits (Ended n) = next_clause [] (words_from false from text) ≡ none
-OneTold text from lits (Broken f) = next_clause [] (words_from false from text) ≡ none
+OneTold text from lits (Ok (Ended n)) = next_clause [] (words_from false from text) ≡ none
+OneTold text from lits (Err f) = next_clause [] (words_from false from text) ≡ none
 
-abbrev pub ScanTold : Bool → List ℕ → ℕ → ℕ → List ℤ → Scanned → Type 0
+abbrev pub ScanTold : Bool → List ℕ → ℕ → ℕ → List ℤ → Result Scanned TextFault → Type 0
 ScanTold true text from vars lits r = AllTold text from vars r
 ScanTold false text from vars lits r = OneTold text from lits r

@@ -7,8 +7,7 @@ ghost use Rattle.dimacs.specs.Reading.{spells, read_text, judged_text};
 ghost use Rattle.dimacs_judge.specs.Told.{Stamps, StopsTold, ScanAsked, ScanTold, AllTold};
 ghost use Rattle.dimacs.specs.declared.TextFault.TheVariants.{SecondProblemLine, MalformedWord};
 
-use dimacs::{TextAnswer, TextFault};
-use dimacs_problem::Problem;
+use dimacs::{TextCounts, TextFault};
 
 // A word that is no number.
 fn no_number(text: &[u8], at: usize, first: bool) -> TextFault
@@ -21,18 +20,6 @@ fn no_number(text: &[u8], at: usize, first: bool) -> TextFault
         }
     }
     TextFault::MalformedWord(at)
-}
-
-fn wide(x: u32) -> u64
-    ensures { result ≡ x }
-{
-    x as u64
-}
-
-fn bit(b: bool) -> u64
-    ensures { (result ≡ cond b 1 0) × (result ≤ 1) }
-{
-    if b { 1 } else { 0 }
 }
 
 // How many literals an unclosed clause has behind a number: none where that closed it.
@@ -66,12 +53,11 @@ fn stops(all: bool, stamps: &mut [u64], v: usize, stamp: u64) -> bool
     v == 0
 }
 
-// What reading comes to: the literals of one clause and where its 0 ends; how many clauses there are, all of them closed; or a fault.
+// What reading comes to, without fault: the literals of one clause and where its 0 ends, or how many clauses there are, all of them closed.
 #[derive(Clone, Copy)]
 pub enum Scanned {
     Closed(usize, usize),
     Ended(usize),
-    Broken(TextFault),
 }
 
 // Reads on behind a word that ends at `from`: all clauses, or one, whose literals go into lits. Both are one loop, so that the reading of a word stands
@@ -83,50 +69,50 @@ pub fn scan(
     all: bool,
     stamps: &mut [u64],
     lits: &mut [i32],
-) -> Scanned
+) -> Result<Scanned, TextFault>
     requires { ScanAsked text.now from vars all stamps.old lits.old }
     ensures { ScanTold all text.now from vars lits.new result }
 {
     let mut stamp: u64 = 1;
     let mut n: usize = 0;
     let mut i = from;
+    // Stays a `while`: the step is a word, and not one.
     while i < text.len() {
         let w = text_next::next_word(text, i);
         let at = w.at;
-        let read = w.read;
-        let value = read.value;
-        if !read.number {
+        let Some(read) = w.read else {
             if at == text.len() {
                 break;
             }
-            return Scanned::Broken(no_number(text, at, w.first));
-        }
-        if wide(vars) < value {
-            return Scanned::Broken(TextFault::PastDeclared(at));
+            return Err(no_number(text, at, w.first));
+        };
+        let value = read.value;
+        if u64::from(vars) < value {
+            return Err(TextFault::PastDeclared(at));
         }
         if stops(all, stamps, value as usize, stamp) {
             if all {
-                return Scanned::Broken(TextFault::VariableTwice(at));
+                return Err(TextFault::VariableTwice(at));
             }
-            return Scanned::Closed(n, read.end);
+            return Ok(Scanned::Closed(n, read.end));
         }
         let closing = value == 0;
         lits[n] = lit::literal_of(value, read.minus);
-        stamp = stamp + bit(closing);
+        stamp = stamp + u64::from(closing);
         n = longer(n, closing);
         if n == 257 {
-            return Scanned::Broken(TextFault::LongClause(at));
+            return Err(TextFault::LongClause(at));
         }
         i = read.end;
     }
     if n == 0 {
-        return Scanned::Ended((stamp - 1) as usize);
+        return Ok(Scanned::Ended((stamp - 1) as usize));
     }
-    Scanned::Broken(TextFault::UnclosedClause(text.len()))
+    Err(TextFault::UnclosedClause(text.len()))
 }
 
 // All clauses behind a word that ends at `from`.
-fn scan_all(text: &[u8], from: usize, vars: u32) -> Scanned
+fn scan_all(text: &[u8], from: usize, vars: u32) -> Result<Scanned, TextFault>
     requires { (from ≤ length text.now) × Behind text.now from × (vars ≤ 2048) }
     ensures { AllTold text.now from vars result }
 {
@@ -136,24 +122,19 @@ fn scan_all(text: &[u8], from: usize, vars: u32) -> Scanned
 }
 
 // A text of any bytes: V and the number of its clauses, or its first fault.
-pub fn judge(text: &[u8]) -> TextAnswer
+pub fn judge(text: &[u8]) -> Result<TextCounts, TextFault>
     ensures { result ≡ judged_text (read_text text.now) }
 {
-    let problem = dimacs_problem::read_problem(text);
-    match problem {
-        Problem::Undeclared(f) => TextAnswer::Faulty(f),
-        Problem::Declared(vars, count, end) => {
-            let scanned = scan_all(text, end, vars);
-            match scanned {
-                Scanned::Broken(f) => TextAnswer::Faulty(f),
-                Scanned::Closed(n, _) => TextAnswer::Sound(vars, n),
-                Scanned::Ended(n) => {
-                    if n as u64 == count {
-                        return TextAnswer::Sound(vars, n);
-                    }
-                    TextAnswer::Faulty(TextFault::WrongClauseCount(text.len()))
-                }
+    let declared = dimacs_problem::read_problem(text)?;
+    let vars = declared.vars;
+    let scanned = scan_all(text, declared.end, vars)?;
+    match scanned {
+        Scanned::Closed(clauses, _) => Ok(TextCounts { vars, clauses }),
+        Scanned::Ended(clauses) => {
+            if clauses as u64 == declared.clauses {
+                return Ok(TextCounts { vars, clauses });
             }
+            Err(TextFault::WrongClauseCount(text.len()))
         }
     }
 }

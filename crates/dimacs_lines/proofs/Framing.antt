@@ -6,7 +6,7 @@ use native.Mathlib.Omega.{arith}
 use native.Mathlib.Numerals.{add-one}
 use lib.IntN.{ℤ, pos}
 use lib.ListN.{length, get_or, take, length-append}
-use lib.Seq.{take-suc, take_all, length-take-le}
+use lib.Seq.{take-suc, length-take-le}
 use mir.Syntax.{w32}
 use mir.Val.{SFits, to_z, of_z}
 use mir.Facts.{to_z-of_z}
@@ -14,7 +14,7 @@ use Rattle.line_hex.specs.Hex.{unsigned, hex}
 use Rattle.line_hex.proofs.Digits.{hex_length}
 use Rattle.line_read.specs.Lent.{Wrote}
 use Rattle.line_put.proofs.Writing.{wrote_none, wrote_then, wrote_as}
-use Rattle.dimacs_lines.specs.Lines.{words_in_hex, frame_line}
+use Rattle.dimacs_lines.specs.Lines.{words_in_hex}
 
 pub words_length : (ws : List ℤ) → length (words_in_hex ws) ≡ 8 * length ws
 unfolding words_in_hex
@@ -60,6 +60,3 @@ module _ {o : List ℕ} {at : ℕ} {ws : List ℤ} {o' : List ℕ} {a i : ℕ} (
     size = k ∙ f.size;
     wrote = wrote_as (ap (λ m. words_in_hex (take i ws) ++ hex 8 m) (e ∙ ap unsigned (to_z-of_z s)) ∙ sym (words_more ws i h)) (wrote_then f.wrote p);
   }
-
-  pub framing_end : {o₂ : List ℕ} {a₂ : ℕ} → length ws ≤ i → Wrote o' a (10 ∷ []) o₂ a₂ → Wrote o at (frame_line ws) o₂ a₂
-  framing_end h p = wrote_then (wrote_as (ap words_in_hex (take_all i ws h)) f.wrote) p

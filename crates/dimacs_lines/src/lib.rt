@@ -13,10 +13,8 @@ pub fn put_frame(out: &mut [u8], at: usize, frame: &[i32]) -> usize
     ensures { Wrote out.old at (frame_line frame.now) out.new result }
 {
     let mut a = at;
-    let mut i: usize = 0;
-    while i < frame.len() {
-        a = line_put::put_number(out, a, line_hex::word_of(frame[i]));
-        i += 1;
+    for &x in frame {
+        a = line_put::put_number(out, a, line_hex::word_of(x));
     }
     line_put::put(out, a, 10)
 }

@@ -10,8 +10,7 @@ use Rattle.line_put.proofs.Writing.{wrote_none, wrote_then, wrote_as}
 use Rattle.dimacs_frames.specs.Yields.{yields_into}
 use Rattle.dimacs_frames.specs.Series.{no_frame, Leads}
 use Rattle.dimacs_frames.specs.declared.Cursor.{Cursor}
-use Rattle.dimacs_frames.specs.declared.Yield.{Yield}
-use Rattle.dimacs_frames.specs.declared.Yield.TheVariants.{Frame}
+use Rattle.dimacs_frames.specs.Yielding.{Yield, yielded}
 use Rattle.dimacs_frames.proofs.Series.{handed_out, leads_none, leads_on, leads_end}
 use Rattle.dimacs_lines.specs.Lines.{words_in_hex, frame_line, frame_lines}
 use Rattle.dimacs_lines.proofs.Framing.{words_length}
@@ -45,7 +44,7 @@ going_none text c out = record { frames = []; leads = leads_none text c; lines =
 
 module _ {text : List ℕ} {c : Cursor} {out : List ℕ} {d : Cursor} {out' : List ℕ} {at : ℕ} (g : Going text c out d out' at) (frame frame' : List ℤ) where
   -- one call more handed out a frame, and its line was put behind the others
-  pub going_more : (n : ℕ) (e : Cursor) → (Frame n e, frame') ≡ yields_into text d frame → {out₂ : List ℕ} {at₂ : ℕ}
+  pub going_more : (n : ℕ) (e : Cursor) → (yielded n e, frame') ≡ yields_into text d frame → {out₂ : List ℕ} {at₂ : ℕ}
       → Wrote out' at (frame_line (take n frame')) out₂ at₂ → Going text c out e out₂ at₂
   going_more n e q w =
       let h = handed_out text d frame frame' n e q in
@@ -59,7 +58,7 @@ module _ {text : List ℕ} {c : Cursor} {out : List ℕ} {d : Cursor} {out' : Li
       }
 
   -- or none
-  pub going_end : (r : Yield) → (r, frame') ≡ yields_into text d frame → 258 ≤ length frame → ((n : ℕ) (e : Cursor) → r ≡ Frame n e → ⊥)
+  pub going_end : (r : Yield) → (r, frame') ≡ yields_into text d frame → 258 ≤ length frame → ((n : ℕ) (e : Cursor) → r ≡ yielded n e → ⊥)
       → PrintedAll text c out out' at r
   going_end r q h none = record { frames = g.frames; series = leads_end g.frames g.leads (no_frame frame r frame' q h none); lines = g.lines }
 

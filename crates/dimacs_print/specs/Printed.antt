@@ -1,12 +1,12 @@
 -- Lines of frames in a lent buffer, from its start on.
-use Rattle.std.specs.Prelude.{ℕ, ◌≤◌, ◌<◌, List, ◌++◌, take, ℤ}
+use Rattle.std.specs.Prelude.{ℕ, ◌≤◌, ◌<◌, List, ◌++◌, take, ℤ, Option, Some, None, Result, Ok, Err}
 use Rattle.line_read.specs.Lent.{Wrote}
 use Rattle.dimacs_frames.specs.Series.{Series, Leads}
 use Rattle.dimacs_frames.specs.declared.Cursor.{Cursor}
-use Rattle.dimacs_frames.specs.declared.Yield.{Yield}
+use Rattle.dimacs_frames.specs.Yielding.{Yield}
 use Rattle.dimacs_lines.specs.Lines.{frame_lines}
+use Rattle.dimacs_frames.specs.declared.YieldError.{YieldError}
 use Rattle.dimacs_print.specs.declared.Filled.{Filled}
-use Rattle.dimacs_print.specs.declared.Filled.TheVariants.{More, Ended}
 
 -- the frames that calls hand out from c on, up to d, stand in it; the ids rise to at most 2147483647
 pub record PrintedOn (text : List ℕ) (c d : Cursor) (out out' : List ℕ) (at : ℕ) : Type 0 where
@@ -22,9 +22,13 @@ pub record PrintedAll (text : List ℕ) (c : Cursor) (out out' : List ℕ) (at :
   pub series : Series text c frames told
   pub lines : Wrote out 0 (frame_lines frames) out' at
 
+abbrev pub FillingAs : List ℕ → Cursor → List ℕ → List ℕ → ℕ → Result (Option Cursor) YieldError → Type 0
+FillingAs text c out out' at (Ok (Some d)) = PrintedOn text c d out out' at
+FillingAs text c out out' at (Ok None) = PrintedAll text c out out' at (Ok None)
+FillingAs text c out out' at (Err e) = PrintedAll text c out out' at (Err e)
+
 abbrev pub Filling : List ℕ → Cursor → List ℕ → Filled → List ℕ → Type 0
-Filling text c out (More at d) out' = PrintedOn text c d out out' at
-Filling text c out (Ended at told) out' = PrintedAll text c out out' at told
+Filling text c out r out' = FillingAs text c out out' r.at r.onward
 
 -- calls one after the other, each behind the cursor that the one before handed back: the bytes that they put, and what the last one tells
 pub data Prints (text : List ℕ) : Cursor → List ℕ → Yield → Type 0 where

@@ -4,14 +4,14 @@
 ghost use Rattle.std.specs.Prelude.{◌≡◌, ◌≤◌, length};
 ghost use Rattle.dimacs_print.specs.Printed.{Filling};
 
-use dimacs_frames::{Cursor, Yield};
+use dimacs_frames::{Cursor, YieldError};
 
-// The lines stand in the buffer before a place. Either it has no room for one more longest line, and the text goes on behind the cursor; or the last call
-// handed out no frame, and told why.
+// Where the lines in the buffer end. Either it has no room for one more longest line, and the text goes on behind a cursor; or the last call handed out no
+// frame: none is left, or it told why.
 #[derive(Clone, Copy)]
-pub enum Filled {
-    More(usize, Cursor),
-    Ended(usize, Yield),
+pub struct Filled {
+    pub at: usize,
+    pub onward: Result<Option<Cursor>, YieldError>,
 }
 
 // The longest line: 258 words of eight digits, and 0A.
@@ -21,13 +21,29 @@ pub fn fill(text: &[u8], cursor: Cursor, frame: &mut [i32], out: &mut [u8]) -> F
 {
     let mut at: usize = 0;
     let mut behind = cursor;
+    // Stays a `while`: the step is as long as the line was.
     while 2065 <= out.len() - at {
-        let yielded = dimacs_frames::next(text, behind, frame);
-        let Yield::Frame(n, d) = yielded else {
-            return Filled::Ended(at, yielded);
-        };
-        at = dimacs_lines::put_frame(out, at, &frame[..n]);
-        behind = d;
+        match dimacs_frames::next(text, behind, frame) {
+            Ok(Some(yielded)) => {
+                at = dimacs_lines::put_frame(out, at, &frame[..yielded.words]);
+                behind = yielded.behind;
+            }
+            Ok(None) => {
+                return Filled {
+                    at,
+                    onward: Ok(None),
+                };
+            }
+            Err(why) => {
+                return Filled {
+                    at,
+                    onward: Err(why),
+                };
+            }
+        }
     }
-    Filled::More(at, behind)
+    Filled {
+        at,
+        onward: Ok(Some(behind)),
+    }
 }

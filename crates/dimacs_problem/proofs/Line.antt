@@ -1,14 +1,16 @@
 -- The words of the problem line, one after the other.
 use mathlib.Core.Path.{◌≡◌, sym, ap, ◌∙◌}
-use mathlib.Core.Bool.{Bool, true, false, not, ◌&&◌}
+use mathlib.Core.Bool.{Bool, true, false, not, ◌&&◌, ◌||◌}
 use mathlib.Core.List.{List, [], ◌∷◌}
 use mathlib.Core.Option.{Option, none, some}
 use Prim.Native.Nat.{ℕ, ◌+◌, ◌≤◌, ◌<◌}
 use native.Mathlib.Omega.{arith}
 use native.Mathlib.Decide.{dec_lt}
+use Rattle.std.specs.Prelude.{Some, Ok, Err}
 use lib.Dec.{ltb, leb}
 use lib.ListN.{length, drop, drop_of_length-le, length-drop}
-use borrow.Author.Tests.{lt-ltb, le-ltb, le-leb, lt-leb}
+use borrow.Author.Tests.{lt-ltb, le-ltb, le-leb, lt-leb, ltb-true, ltb-false}
+use Rattle.rules.proofs.Lists.{by_cases, or-false}
 use lib.Seq.{drop-drop}
 use Rattle.text.specs.Words.{TextWord, text_words, words_from}
 use Rattle.text.specs.Places.{word_bytes, word_at, Seeks, SeeksFirst}
@@ -16,13 +18,11 @@ use Rattle.text.specs.declared.Sought.{Sought}
 use Rattle.text.proofs.Words.{words_end, words_word, behind_word}
 use Rattle.text_numbers.specs.Numbers.{natural_of}
 use Rattle.text_numbers.specs.Told.{NumeralTold}
-use Rattle.text_numbers.specs.declared.Numeral.TheVariants.{Number}
+use Rattle.text_numbers.specs.declared.Numeral.{Numeral}
 use Rattle.dimacs.specs.Reading.{faulty, expect, expect_number, spells, read_clauses, counted, read_behind, count_of, read_number, read_count, read_vars}
 use Rattle.dimacs.specs.Reading.{read_format, read_problem, read_text, body_words}
 use Rattle.dimacs.specs.declared.TextFault.TheVariants.{NoProblemLine, MalformedWord, VarsOutOfRange}
-use Rattle.dimacs_problem.specs.Told.{CountTold, ProblemTold}
-use Rattle.dimacs_problem.specs.declared.CountWord.TheVariants.{Counted, Uncounted}
-use Rattle.dimacs_problem.specs.declared.Problem.TheVariants.{Declared, Undeclared}
+use Rattle.dimacs_problem.specs.Told.{CountRead, CountTold, ProblemTold}
 use Rattle.dimacs_problem.proofs.Spelling.{spells_length, word_short}
 
 module _ (text : List ℕ) where
@@ -43,7 +43,7 @@ module _ (text : List ℕ) where
 
   module _ (from : ℕ) (w : Sought) (s : Seeks text false from w) where
     -- another word, or none, in its place
-    pub no_number : count_of (word w.first w.at) ≡ none → CountTold text (words_from false from text) (Uncounted w.at)
+    pub no_number : count_of (word w.first w.at) ≡ none → CountTold text (words_from false from text) (Err (MalformedWord w.at))
     unfolding read_number expect_number
     no_number e more = of (dec_lt w.at (length text))
       where
@@ -51,11 +51,11 @@ module _ (text : List ℕ) where
         of (yes h) = rw (one_found false from w s h, e)
         of (no h) = let past : length text ≡ w.at = omega (arith, s.high) in rw (none_left false from w s (omega arith), past)
 
-    pub a_number : w.first ≡ false → {v end : ℕ} → NumeralTold (word_at w.at text) w.at (Number v end)
-        → CountTold text (words_from false from text) (Counted v w.at end)
+    pub a_number : w.first ≡ false → {r : Numeral} → NumeralTold (word_at w.at text) w.at (Some r)
+        → CountTold text (words_from false from text) (Ok (record { value = r.value; at = w.at; end = r.end }))
     unfolding read_number expect_number natural_of word_bytes
-    a_number f {v} {end} (n, said, value, behind) =
-        let e : end ≤ length text = omega (arith, behind, word_short (drop w.at text), length-drop w.at text, s.high) in
+    a_number f {r} (n, said, value, behind) =
+        let e : r.end ≤ length text = omega (arith, behind, word_short (drop w.at text), length-drop w.at text, s.high) in
         record {
           number = n;
           told = value;
@@ -78,12 +78,12 @@ module _ (text : List ℕ) where
 
   -- ---- the clause count, the last word of its line
 
-  module _ (vars : ℕ) (ws : List TextWord) (v at end : ℕ) (c : CountTold text ws (Counted v at end)) (w : Sought) (s : Seeks text false end w) where
+  module _ (vars : ℕ) (ws : List TextWord) (v at end : ℕ) (c : CountRead text ws v at end) (w : Sought) (s : Seeks text false end w) where
     behind : read_count vars (length text) ws ≡ counted vars c.number (length text) (read_behind vars (length text) (words_from false end text))
     behind = c.read_on (λ at n rest. counted vars n (length text) (read_behind vars (length text) rest))
 
     pub fifth_word : w.at < length text → w.first ≡ false
-        → ProblemTold text (drop 1 ws) (read_count vars (length text) ws) (Undeclared (MalformedWord w.at))
+        → ProblemTold text (drop 1 ws) (read_count vars (length text) ws) (Err (MalformedWord w.at))
     unfolding expect
     fifth_word h f = behind ∙ rw (one_found false end w s h, f)
 
@@ -98,7 +98,7 @@ module _ (text : List ℕ) where
         of (no h) = rw (none_left false end w s (omega arith))
 
     pub line_ended : 1 ≤ vars → vars ≤ 2048 → (w.at < length text → w.first ≡ true)
-        → ProblemTold text (drop 1 ws) (read_count vars (length text) ws) (Declared vars v end)
+        → ProblemTold text (drop 1 ws) (read_count vars (length text) ws) (Ok (record { vars = vars; clauses = v; end = end }))
     line_ended low high f = record {
       number = c.number;
       told = c.told;
@@ -112,29 +112,35 @@ module _ (text : List ℕ) where
 
   -- ---- V
 
-  module _ (ws : List TextWord) (v at end : ℕ) (c : CountTold text ws (Counted v at end)) where
+  module _ (ws : List TextWord) (v at end : ℕ) (c : CountRead text ws v at end) where
     ranged : read_vars (length text) ws
         ≡ expect (ltb 0 c.number && leb c.number 2048) (VarsOutOfRange at) (read_count c.number (length text) (words_from false end text))
     ranged = c.read_on (λ at n rest. expect (ltb 0 n && leb n 2048) (VarsOutOfRange at) (read_count n (length text) rest))
 
-    pub no_vars : v < 1 → read_vars (length text) ws ≡ faulty (VarsOutOfRange at)
+    no_vars : v < 1 → read_vars (length text) ws ≡ faulty (VarsOutOfRange at)
     unfolding expect
     no_vars h = let z : c.number ≤ 0 = omega (arith, c.told) in ranged ∙ rw (le-ltb 0 c.number z)
 
-    pub many_vars : 2048 < v → read_vars (length text) ws ≡ faulty (VarsOutOfRange at)
+    many_vars : 2048 < v → read_vars (length text) ws ≡ faulty (VarsOutOfRange at)
     unfolding expect
     many_vars h =
         let some_vars : 0 < c.number = omega (arith, c.told) in
         let many : 2048 < c.number = omega (arith, c.told) in
         ranged ∙ rw (lt-ltb 0 c.number some_vars, lt-leb c.number 2048 many)
 
+    pub vars_outside : (ltb v 1 || ltb 2048 v) ≡ true → read_vars (length text) ws ≡ faulty (VarsOutOfRange at)
+    vars_outside t = by_cases (ltb v 1) (λ l. no_vars (ltb-true v 1 l)) (λ l. many_vars (ltb-true 2048 v (rw l at t)))
+
     -- the words behind V and the next
     pub behind_vars : drop 2 ws ≡ drop 1 (words_from false end text)
     behind_vars = sym (drop-drop 1 1 ws) ∙ ap (drop 1) (sym c.rest)
 
-    pub vars_ranged : 1 ≤ v → v ≤ 2048 → read_vars (length text) ws ≡ read_count v (length text) (words_from false end text)
+    pub vars_ranged : (ltb v 1 || ltb 2048 v) ≡ false → read_vars (length text) ws ≡ read_count v (length text) (words_from false end text)
     unfolding expect
-    vars_ranged low high =
+    vars_ranged f =
+        let in_range = or-false (ltb v 1) (ltb 2048 v) f in
+        let low = ltb-false v 1 in_range.0 in
+        let high = ltb-false 2048 v in_range.1 in
         let n : c.number ≡ v = omega (arith, c.told) in
         ranged ∙ rw (n, lt-ltb 0 v low, le-leb v 2048 high)
 

@@ -1,13 +1,8 @@
 // A text's fault on standard error: a line of digits for programs, and one in words for people.
 #![tactic(auto)]
 
-ghost use Rattle.std.specs.Prelude.{◌≤◌, length};
-
 use dimacs::TextFault;
-
-fn say(rt: &HostRuntime, words: &[u8]) {
-    let _ = rt.stderr().write_all(words);
-}
+use trouble::say;
 
 // The first line for programs: code and position, eight digits each.
 fn say_numbers(rt: &HostRuntime, fault: TextFault) {
@@ -16,17 +11,8 @@ fn say_numbers(rt: &HostRuntime, fault: TextFault) {
     say(rt, &out[..n]);
 }
 
-fn inside(text: &[u8], at: usize) -> usize
-    ensures { result ≤ length text.now }
-{
-    if text.len() < at {
-        return text.len();
-    }
-    at
-}
-
 fn say_place(rt: &HostRuntime, before: &[u8], text: &[u8], at: usize) {
-    let place = text::place_of(text, inside(text, at));
+    let place = text::place_of(text, at.min(text.len()));
     say(rt, before);
     let _ = rt.stderr().print(place.line);
     say(rt, b", column ");
@@ -35,48 +21,31 @@ fn say_place(rt: &HostRuntime, before: &[u8], text: &[u8], at: usize) {
 }
 
 // What a person can act on.
-fn say_words(rt: &HostRuntime, fault: TextFault) {
+fn words(fault: TextFault) -> &'static [u8] {
     match fault {
-        TextFault::NoProblemLine(_) => say(
-            rt,
+        TextFault::NoProblemLine(_) =>
             b"the problem line is missing; a line \"p cnf VARIABLES CLAUSES\" stands before all clauses",
-        ),
-        TextFault::SecondProblemLine(_) => say(
-            rt,
+        TextFault::SecondProblemLine(_) =>
             b"a second problem line; a text has one, before all clauses",
-        ),
-        TextFault::MalformedWord(_) => say(
-            rt,
+        TextFault::MalformedWord(_) =>
             b"a malformed word; literals are numbers such as 5 and -5, 0 closes a clause, the problem line is \"p cnf VARIABLES CLAUSES\"",
-        ),
-        TextFault::PastDeclared(_) => say(
-            rt,
+        TextFault::PastDeclared(_) =>
             b"a literal past the variable count that the problem line declares",
-        ),
-        TextFault::VariableTwice(_) => say(
-            rt,
+        TextFault::VariableTwice(_) =>
             b"a variable that its clause has already; a clause names a variable once",
-        ),
-        TextFault::LongClause(_) => say(
-            rt,
-            b"the 257th literal of a clause; a clause has at most 256",
-        ),
-        TextFault::VarsOutOfRange(_) => say(rt, b"a variable count outside 1 to 2,048"),
-        TextFault::UnclosedClause(_) => say(
-            rt,
+        TextFault::LongClause(_) => b"the 257th literal of a clause; a clause has at most 256",
+        TextFault::VarsOutOfRange(_) => b"a variable count outside 1 to 2,048",
+        TextFault::UnclosedClause(_) =>
             b"the text ends inside a clause; the 0 that closes it is missing",
-        ),
-        TextFault::WrongClauseCount(_) => say(
-            rt,
+        TextFault::WrongClauseCount(_) =>
             b"the text ends with more or fewer clauses than its problem line declares",
-        ),
     }
-    say(rt, b"\n");
 }
 
 // Two lines. The second, for people, has these words before the number of the faulty word's line.
 pub fn say_fault(rt: &HostRuntime, before: &[u8], text: &[u8], fault: TextFault) {
     say_numbers(rt, fault);
     say_place(rt, before, text, dimacs_codes::position(fault));
-    say_words(rt, fault);
+    say(rt, words(fault));
+    say(rt, b"\n");
 }

@@ -8,25 +8,18 @@ ghost use Rattle.table.specs.Spelled.{Fit};
 ghost use Rattle.judge_checks.specs.Judged.{Judges};
 
 use judge_checks::Judged;
-use rules::{Check, Fault};
-use table::{Found, Row, Table};
+use table::{Row, Table};
 
 pub fn judge_add(rows: &[Row], pool: &[i32], stack: &[u32], t: Table, id: u32, c: &[i32]) -> Judged
     requires { Fit t rows.now pool.now stack.now × (length c.now ≤ 256) }
     ensures { Judges t rows.now pool.now stack.now (ADD id c.now) result }
 {
-    let sound = judge_checks::new_clause(t, id, c, 2);
-    if let Check::Failed(f) = sound {
-        return judge_checks::failed(f);
-    }
+    judge_checks::new_clause(t, id, c, 2)?;
     let n = t.count as usize;
     let depth = t.depth as usize;
-    let clean = judge_walk::cleanly(&rows[..n], pool, &stack[..depth], c);
-    if let Check::Failed(f) = clean {
-        return judge_checks::failed(f);
-    }
-    let spare = judge_checks::free(rows, pool, stack, t, c.len());
-    judge_checks::judged_by(spare, 0)
+    judge_walk::cleanly(&rows[..n], pool, &stack[..depth], c)?;
+    judge_checks::free(rows, pool, stack, t, c.len())?;
+    Ok(0)
 }
 
 pub fn judge_learn(
@@ -41,19 +34,13 @@ pub fn judge_learn(
     requires { Fit t rows.now pool.now stack.now × (length c.now ≤ 256) × (length hints.now ≤ 4096) }
     ensures { Judges t rows.now pool.now stack.now (LEARN id c.now hints.now) result }
 {
-    let sound = judge_checks::new_clause(t, id, c, 3);
-    if let Check::Failed(f) = sound {
-        return judge_checks::failed(f);
-    }
-    let spare = judge_checks::free(rows, pool, stack, t, c.len());
-    if let Check::Failed(f) = spare {
-        return judge_checks::failed(f);
-    }
+    judge_checks::new_clause(t, id, c, 3)?;
+    judge_checks::free(rows, pool, stack, t, c.len())?;
     let n = t.count as usize;
     let scope = judge_propagate::all_clauses();
     let verdict = judge_hints::proves(&rows[..n], pool, scope, c, hints);
-    let proved = judge_checks::decided(verdict, 3 + c.len(), 0);
-    judge_checks::judged_by(proved, 0)
+    judge_checks::decided(verdict, 3 + c.len(), 0)?;
+    Ok(0) // LEARN names no held clause
 }
 
 // Both ask for a learned clause.
@@ -68,10 +55,7 @@ pub fn judge_forget_or_promote(
     ensures { Judges t rows.now pool.now stack.now (FORGET id) result
         × Judges t rows.now pool.now stack.now (PROMOTE id) result }
 {
-    let Found::At(k) = judge_checks::locate(rows, t, 1, id) else {
-        return judge_checks::failed(Fault::Id(id));
-    };
-    judge_checks::passed(k)
+    judge_checks::named(rows, t, 1, id)
 }
 
 pub fn judge_drop(
@@ -85,28 +69,24 @@ pub fn judge_drop(
     requires { Fit t rows.now pool.now stack.now × (length hints.now ≤ 4096) }
     ensures { Judges t rows.now pool.now stack.now (DROP id hints.now) result }
 {
-    let Found::At(k) = judge_checks::locate(rows, t, 0, id) else {
-        return judge_checks::failed(Fault::Id(id));
-    };
+    let k = judge_checks::named(rows, t, 0, id)?;
     let n = t.count as usize;
     let scope = judge_propagate::irredundant_but(id);
     let c = table::clause_of(rows, pool, k);
     let verdict = judge_hints::proves(&rows[..n], pool, scope, c, hints);
-    let proved = judge_checks::decided(verdict, 2, 0);
-    judge_checks::judged_by(proved, k)
+    judge_checks::decided(verdict, 2, 0)?;
+    Ok(k)
 }
 
 pub fn judge_restore(rows: &[Row], pool: &[i32], stack: &[u32], t: Table, id: u32) -> Judged
     requires { Fit t rows.now pool.now stack.now }
     ensures { Judges t rows.now pool.now stack.now (RESTORE id) result }
 {
-    let Found::At(k) = judge_checks::locate(rows, t, 2, id) else {
-        return judge_checks::failed(Fault::Id(id));
-    };
+    let k = judge_checks::named(rows, t, 2, id)?;
     let n = t.count as usize;
     let depth = t.depth as usize;
     let above = table_slices::position(stack, depth, id) + 1;
     let c = table::clause_of(rows, pool, k);
-    let clean = judge_walk::cleanly(&rows[..n], pool, &stack[above..depth], c);
-    judge_checks::judged_by(clean, k)
+    judge_walk::cleanly(&rows[..n], pool, &stack[above..depth], c)?;
+    Ok(k)
 }

@@ -12,8 +12,8 @@ use Rattle.rules.specs.Lists.{all_pass}
 use Rattle.rules.specs.Terms.{in_range, has, fetch}
 use Rattle.table.specs.Spelled.{Row, row_at, id_of, place_of, clause_part, held, clauses, held_rows, Rising, Inside, Fit, Located}
 use Rattle.table.specs.declared.Table.{Table}
-use Rattle.table.specs.declared.Found.{Found}
-use Rattle.table.specs.declared.Found.TheVariants.{At, Nothing}
+use Rattle.std.specs.Prelude.{Option}
+use Rattle.std.specs.Prelude.{Some, None}
 use Rattle.table.proofs.Finding as finding
 use Rattle.table.proofs.Readers.{readable, row_inside, has_at, fetch_at}
 use Rattle.judge_checks.specs.Located.{RowOf, LocatedIn}
@@ -27,7 +27,7 @@ module _ (t : Table) (rows : List Row) (inside : t.count ≤ length rows) where
   row_same k h = get_or-take t.count rows k [] h
 
   -- the row of an id: its place is the one that is asked for, or it is not
-  module _ (i k : ℕ) (at : Located (held_rows t rows) i (At k)) where
+  module _ (i k : ℕ) (at : Located (held_rows t rows) i (Some k)) where
     pub below_count : k < t.count
     below_count = omega (arith, count_rows, at.0)
 
@@ -42,11 +42,11 @@ module _ (t : Table) (rows : List Row) (inside : t.count ≤ length rows) where
         rw (← q) (finding.has_at pool (held_rows t rows) up k at.0 p ∙ rw e (ne_eqb (place_of (row_at rows k)) p n))
 
 -- by what the search handed back
-module _ (t : Table) (rows : List Row) (p i : ℕ) {r : Found} where
-  pub found : (k : ℕ) → r ≡ At k → LocatedIn t rows p i r → RowOf t rows p i k
+module _ (t : Table) (rows : List Row) (p i : ℕ) {r : Option ℕ} where
+  pub found : (k : ℕ) → r ≡ Some k → LocatedIn t rows p i r → RowOf t rows p i k
   found k e l = subst (LocatedIn t rows p i) e l
 
-  pub missing : r ≡ Nothing → LocatedIn t rows p i r → (pool : List ℤ) → has (clauses p pool (held_rows t rows)) i ≡ false
+  pub missing : r ≡ None → LocatedIn t rows p i r → (pool : List ℤ) → has (clauses p pool (held_rows t rows)) i ≡ false
   missing e l = subst (LocatedIn t rows p i) e l
 
 -- the row of a clause: what may be read of it, and that its place has it under this id

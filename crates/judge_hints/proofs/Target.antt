@@ -12,11 +12,9 @@ use Rattle.rules.specs.Lists.{any_passes, all_pass, only}
 use Rattle.rules.specs.Terms.{Literals, same, in_range, holds, opposes}
 use Rattle.rules.specs.Propagation.{Allowed, also, proves}
 use Rattle.rules.specs.declared.Verdict.{Verdict}
-use Rattle.rules.proofs.Lists.{from_index, by_cases, not-true, all_head, all_tail}
+use Rattle.rules.proofs.Lists.{from_index, by_cases, all_head, all_tail}
 use Rattle.rules.proofs.Literals.{clash, clash_sym, opposes_also, opposes_none}
-use Rattle.lit_sets.proofs.Sets.{changed_over}
-use Rattle.judge_hints.specs.Target.{Made, opposed, falses, made_of, none_false, deny, make_false, verdict_on}
-use Rattle.judge_hints.specs.declared.Falses.{Falses}
+use Rattle.judge_hints.specs.Target.{Made, opposed, falses, none_false, deny, make_false, verdict_on}
 
 abbrev none : Literals
 none l = false
@@ -30,7 +28,7 @@ make_false_append m (l ∷ c) d = make_false_append (deny m l) c d
 pub in_two_parts : (c d : List ℤ) {m n : Made} → m ≡ make_false none_false c → n ≡ make_false m d → n ≡ make_false none_false (c ++ d)
 in_two_parts c d e f = f ∙ ap (λ m. make_false m d) e ∙ sym (make_false_append none_false c d)
 
-make_false_opposed : (c : List ℤ) → make_false opposed c ≡ opposed
+pub make_false_opposed : (c : List ℤ) → make_false opposed c ≡ opposed
 unfolding make_false
 make_false_opposed [] = refl
 make_false_opposed (l ∷ c) = make_false_opposed c
@@ -119,22 +117,23 @@ less_nothing S c e = rw e (ap (make_false none_false) (all_kept c))
     all_kept [] = refl
     all_kept (l ∷ c) = rw (opposes_none l, all_kept c)
 
--- the literal that a test finds opposed, and the false literals with it
-pub deny_more : (b : Bool) (F : Literals) (l : ℤ) {r : Bool} {G : Literals} → not b ≡ true → r ≡ opposes F l → G ≡ also l F →
-    deny (cond b opposed (falses F)) l ≡ cond r opposed (falses G)
-deny_more b F l n e g = rw (not-true {b = b} n, e, g)
+-- a literal that a test finds opposed, or not
+pub deny_opposed : (F : Literals) (l : ℤ) {r : Bool} → r ≡ opposes F l → r ≡ true → deny (falses F) l ≡ opposed
+deny_opposed F l e t = let q = sym e ∙ t in rw q
+
+pub deny_more : (F : Literals) (l : ℤ) {r : Bool} {G : Literals} → r ≡ opposes F l → r ≡ false → G ≡ also l F → deny (falses F) l ≡ falses G
+deny_more F l e f g = let q = sym e ∙ f in rw (q, g)
 
 -- ---- as a loop makes it, over the literals of c that pass a test
 
 module _ (p : ℤ → Bool) (c : List ℤ) where
   -- from index i on, of what is to be made
   pub record Making (whole m : Made) (i : ℕ) : Type 0 where
-    pub within : i ≤ length c
     pub left : whole ≡ make_false m (only p (drop i c))
 
   module _ {whole m : Made} {i : ℕ} (s : Making whole m i) where
-    pub making_opposed : m ≡ opposed → m ≡ whole
-    making_opposed e = e ∙ sym (s.left ∙ rw e (make_false_opposed (only p (drop i c))))
+    pub making_opposed : m ≡ opposed → opposed ≡ whole
+    making_opposed e = sym (s.left ∙ rw e (make_false_opposed (only p (drop i c))))
 
     pub making_end : length c ≤ i → m ≡ whole
     unfolding make_false only
@@ -146,21 +145,17 @@ module _ (p : ℤ → Bool) (c : List ℤ) where
 
       pub making_gone : p (get_or c i (pos 0)) ≡ false → Making whole m (i + 1)
       unfolding only
-      making_gone e = record { within = omega arith; left = here ∙ rw e }
+      making_gone e = record { left = here ∙ rw e }
 
       pub making_kept : p (get_or c i (pos 0)) ≡ true → {n : Made} → deny m (get_or c i (pos 0)) ≡ n → Making whole n (i + 1)
       unfolding only make_false
-      making_kept e d = record { within = omega arith; left = here ∙ rw e (ap (λ x. make_false x (only p (drop (i + 1) c))) d) }
+      making_kept e d = record { left = here ∙ rw e (ap (λ x. make_false x (only p (drop (i + 1) c))) d) }
 
 -- ---- UNSAT's target: the opposites of the assumptions
 
 abbrev pub swapped : Made → Made
 swapped opposed = opposed
 swapped (falses F) = falses (opposes F)
-
--- the two arrays changed over
-pub made_swapped : (m : Falses) → made_of (record { opposed = m.opposed; plus = m.minus; minus = m.plus }) ≡ swapped (made_of m)
-made_swapped m = by_cases m.opposed (λ e. rw e) (λ e. rw (e, changed_over m.plus m.minus))
 
 same_opposite : (n : ℕ) (l m : ℤ) → in_range n l ≡ true → same (neg_ℤ l) m ≡ clash l m
 same_opposite n (pos zero) m h = absurd (false≢true h)

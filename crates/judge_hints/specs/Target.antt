@@ -1,11 +1,11 @@
 -- A target's literals made false one after the other, in the order in which the code reads them.
-use Rattle.std.specs.Prelude.{false, cond, List, [], ◌∷◌, ℤ}
+use Rattle.std.specs.Prelude.{false, cond, Option, Some, None, List, [], ◌∷◌, ℤ}
 use Rattle.rules.specs.Terms.{Literals, opposes}
 use Rattle.rules.specs.Propagation.{Allowed, also, run}
 use Rattle.rules.specs.declared.Verdict.{Verdict}
 use Rattle.rules.specs.declared.Verdict.TheVariants.{Proved}
-use Rattle.lit_sets.specs.Words.{set_of}
-use Rattle.judge_hints.specs.declared.Falses.{Falses}
+use Rattle.lit_sets.specs.Words.{literals}
+use Rattle.lit_sets.specs.declared.LitSet.{LitSet}
 
 -- what a target comes to: it holds a literal and its opposite; else these literals are false
 pub data Made : Type 0 where
@@ -13,8 +13,9 @@ pub data Made : Type 0 where
   falses : Literals → Made
 
 -- what the code hands on
-abbrev pub made_of : Falses → Made
-made_of m = cond m.opposed opposed (falses (set_of m.plus m.minus))
+abbrev pub made_of : Option LitSet → Made
+made_of None = opposed
+made_of (Some s) = falses (literals s)
 
 -- no literal yet
 abbrev pub none_false : Made

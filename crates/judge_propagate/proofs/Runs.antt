@@ -2,18 +2,18 @@
 use mathlib.Core.Path.{◌≡◌, sym, ◌∙◌}
 use mathlib.Core.List.{List}
 use Prim.Native.Nat.{ℕ, ◌+◌, ◌≤◌, ◌<◌}
-use native.Mathlib.Omega.{arith}
 use lib.IntN.{ℤ, pos, neg_ℤ}
 use lib.ListN.{length, get_or, drop, drop_of_length-le}
 use Rattle.rules.proofs.Lists.{from_index}
 use Rattle.rules.specs.Terms.{Literals}
-use Rattle.rules.specs.Propagation.{Named, nobody, clause, Allowed, named, conflict, forced, bad, read, judge, Run, ended, also, after, run}
+use Rattle.rules.specs.Propagation.{Named, nobody, clause, Allowed, named, read, judge, Run, ended, also, after, run}
 use Rattle.rules.specs.declared.Verdict.{Verdict}
 use Rattle.rules.specs.declared.Verdict.TheVariants.{Proved, BadHint, UsedUp}
+use Rattle.judge_propagate.specs.Look.{HintRead}
+use Rattle.judge_propagate.specs.declared.Looked.TheVariants.{Conflict, Forced, Bad}
 
 -- before hint h, with F false and the verdict v so far
 pub record Running (A : Allowed) (hints : List ℤ) (whole : Run) (F : Literals) (v : Verdict) (h : ℕ) : Type 0 where
-  pub within : h ≤ length hints
   pub undecided : v ≡ UsedUp
   pub left : whole ≡ run A F h (drop h hints)
 
@@ -31,11 +31,12 @@ module _ {A : Allowed} {hints : List ℤ} {whole : Run} {F : Literals} {v : Verd
     run_nobody e = sym (here nobody e)
 
     module _ (c : List ℤ) (e : named A (get_or hints h (pos 0)) ≡ clause c) where
-      pub run_conflict : read F c ≡ conflict → ended (Proved (h + 1)) F ≡ whole
-      run_conflict r = let q = here (clause c) e in sym (rw r at q)
+      module _ (G : Literals) where
+        pub run_conflict : HintRead (read F c) F Conflict G → ended (Proved (h + 1)) G ≡ whole
+        run_conflict r = let q = here (clause c) e in let k = r.0 in rw r.1 (sym (rw k at q))
 
-      pub run_bad : read F c ≡ bad → ended (BadHint h) F ≡ whole
-      run_bad r = let q = here (clause c) e in sym (rw r at q)
+        pub run_bad : HintRead (read F c) F Bad G → ended (BadHint h) G ≡ whole
+        run_bad r = let q = here (clause c) e in let k = r.0 in rw r.1 (sym (rw k at q))
 
-      pub run_forced : {u : ℤ} {G : Literals} → read F c ≡ forced u → G ≡ also (neg_ℤ u) F → Running A hints whole G v (h + 1)
-      run_forced r g = let q = here (clause c) e in record { within = omega arith; undecided = s.undecided; left = rw g (rw r at q) }
+        pub run_forced : HintRead (read F c) F Forced G → Running A hints whole G v (h + 1)
+        run_forced r = let q = here (clause c) e in let k = r.1 in record { undecided = s.undecided; left = rw r.2 (rw k at q) }

@@ -1,2 +1,3 @@
 -- The allowed set and what a hint names in it; how propagation ends.
 pub mod Scope
+pub mod Look

@@ -2,10 +2,10 @@
 use Rattle.std.specs.Prelude.{◌≡◌, Bool, not, ◌&&◌, List, map, ℕ, ◌<◌, eqb, ltb, ℤ, length}
 use Rattle.rules.specs.Lists.{only}
 use Rattle.rules.specs.Propagation.{nobody, clause, Allowed, among, named, Run, ended}
-use Rattle.lit_sets.specs.Words.{set_of}
+use Rattle.lit_sets.specs.Words.{literals}
 use Rattle.table.specs.Spelled.{Row, row_at, id_of, place_of, clause_part, held}
-use Rattle.table.specs.declared.Found.{Found}
-use Rattle.table.specs.declared.Found.TheVariants.{At, Nothing}
+use Rattle.std.specs.Prelude.{Option}
+use Rattle.std.specs.Prelude.{Some, None}
 use Rattle.judge_propagate.specs.declared.Scope.{Scope}
 use Rattle.judge_propagate.specs.declared.Propagated.{Propagated}
 
@@ -29,10 +29,10 @@ abbrev pub Positive : List Row → Type 0
 Positive rows = (k : ℕ) → k < length rows → 0 < id_of (row_at rows k)
 
 -- the row of the allowed clause that a hint names, or that it names none
-abbrev pub Picked : List Row → Scope → ℤ → Found → Type 0
-Picked rows scope hint (At k) = (k < length rows) × ((pool : List ℤ) → named (allowed_of scope pool rows) hint ≡ clause (clause_part pool (row_at rows k)))
-Picked rows scope hint Nothing = (pool : List ℤ) → named (allowed_of scope pool rows) hint ≡ nobody
+abbrev pub Picked : List Row → Scope → ℤ → Option ℕ → Type 0
+Picked rows scope hint (Some k) = (k < length rows) × ((pool : List ℤ) → named (allowed_of scope pool rows) hint ≡ clause (clause_part pool (row_at rows k)))
+Picked rows scope hint None = (pool : List ℤ) → named (allowed_of scope pool rows) hint ≡ nobody
 
 -- the verdict, and the literals that are false then
 abbrev pub run_of : Propagated → Run
-run_of r = ended r.verdict (set_of r.plus r.minus)
+run_of r = ended r.verdict (literals r.falses)

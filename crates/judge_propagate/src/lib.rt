@@ -1,15 +1,18 @@
-// Propagation by hints. The false literals are a set in two arrays: `plus` has the variables of its positive literals, which are false, and `minus` those of
-// its negative literals, which are true.
+// Propagation by hints. The false literals are a set: the literals whose opposites are true.
 #![tactic(auto)]
 
-ghost use Rattle.std.specs.Prelude.{◌≡◌};
-ghost use Rattle.rules.specs.Propagation.{run};
-ghost use Rattle.lit_sets.specs.Words.{set_of};
+ghost use Rattle.std.specs.Prelude.{◌≡◌, true};
+ghost use Rattle.rules.specs.Lists.{all_pass};
+ghost use Rattle.rules.specs.Terms.{in_range};
+ghost use Rattle.rules.specs.Propagation.{read, run};
+ghost use Rattle.lit_sets.specs.Words.{literals};
 ghost use Rattle.table.specs.Spelled.{Readable, Rising};
+ghost use Rattle.judge_propagate.specs.Look.{HintRead};
 ghost use Rattle.judge_propagate.specs.Scope.{Picked, Positive, all_clauses, allowed_of, irredundant_but, run_of};
 
+use lit_sets::LitSet;
 use rules::Verdict;
-use table::{Found, Row};
+use table::Row;
 
 // The allowed set: the clauses whose place is below `places`, but for one id.
 #[derive(Clone, Copy)]
@@ -39,25 +42,52 @@ pub fn irredundant_but(id: u32) -> Scope
 }
 
 // The row of the allowed clause that a hint names. A negative word is 0 as a number, and no row has the id 0.
-fn pick(rows: &[Row], scope: Scope, hint: i32) -> Found
+fn pick(rows: &[Row], scope: Scope, hint: i32) -> Option<usize>
     requires { Rising rows.now × Positive rows.now }
     ensures { Picked rows.now scope hint result }
 {
-    let Found::At(k) = table::find(rows, lit::number(hint) as u32) else {
-        return Found::Nothing;
-    };
+    let k = table::find(rows, lit::number(hint) as u32)?;
     if table::place_at(rows, k) < scope.places && table::id_at(rows, k) != scope.except {
-        return Found::At(k);
+        return Some(k);
     }
-    Found::Nothing
+    None
+}
+
+// What the clause of a hint does under the false literals: it is false; or it forces its one open literal, whose opposite is false then; or it is a bad hint.
+#[derive(Clone, Copy)]
+pub enum Looked {
+    Conflict,
+    Forced,
+    Bad,
+}
+
+// One hint, read by its clause.
+pub fn look(clause: &[i32], falses: &mut LitSet) -> Looked
+    requires { all_pass (in_range 2048) clause.now ≡ true }
+    ensures { HintRead (read (literals falses.old) clause.now) (literals falses.old) result (literals falses.new) }
+{
+    let mut open: Option<i32> = None;
+    for &l in clause {
+        if falses.has(l) {
+            continue;
+        }
+        if open.is_some() || falses.has_opposite(l) {
+            return Looked::Bad;
+        }
+        open = Some(l);
+    }
+    let Some(forced) = open else {
+        return Looked::Conflict;
+    };
+    falses.insert(lit::opposite(forced));
+    Looked::Forced
 }
 
 // How propagation ended, and which literals were false then.
 #[derive(Clone, Copy)]
 pub struct Propagated {
     pub verdict: Verdict,
-    pub plus: [u64; 32],
-    pub minus: [u64; 32],
+    pub falses: LitSet,
 }
 
 // Read the hints in order, until one of them decides.
@@ -66,46 +96,28 @@ pub fn propagate(
     pool: &[i32],
     scope: Scope,
     hints: &[i32],
-    mut plus: [u64; 32],
-    mut minus: [u64; 32],
+    mut falses: LitSet,
 ) -> Propagated
     requires { Readable rows.now pool.now }
-    ensures { run_of result ≡ run (allowed_of scope pool.now rows.now) (set_of plus minus) 0 hints.now }
+    ensures { run_of result ≡ run (allowed_of scope pool.now rows.now) (literals falses) 0 hints.now }
 {
     let mut verdict = Verdict::UsedUp;
-    let mut h: usize = 0;
-    'hints: while h < hints.len() {
-        let Found::At(k) = pick(rows, scope, hints[h]) else {
+    for (h, &hint) in hints.iter().enumerate() {
+        let Some(k) = pick(rows, scope, hint) else {
             verdict = Verdict::BadHint(h);
-            break 'hints;
+            break;
         };
-        let clause = table::clause_of(rows, pool, k);
-        let mut open: i32 = 0;
-        let mut i: usize = 0;
-        loop {
-            if i == clause.len() {
-                if open == 0 {
-                    verdict = Verdict::Proved(h + 1);
-                    break 'hints;
-                }
+        match look(table::clause_of(rows, pool, k), &mut falses) {
+            Looked::Conflict => {
+                verdict = Verdict::Proved(h + 1);
                 break;
             }
-            let l = clause[i];
-            if !lit_sets::has(&plus, &minus, l) {
-                if open != 0 || lit_sets::has_opposite(&plus, &minus, l) {
-                    verdict = Verdict::BadHint(h);
-                    break 'hints;
-                }
-                open = l;
+            Looked::Forced => (),
+            Looked::Bad => {
+                verdict = Verdict::BadHint(h);
+                break;
             }
-            i += 1;
         }
-        lit_sets::insert(&mut plus, &mut minus, lit::opposite(open));
-        h += 1;
     }
-    Propagated {
-        verdict,
-        plus,
-        minus,
-    }
+    Propagated { verdict, falses }
 }

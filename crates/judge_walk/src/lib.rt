@@ -11,7 +11,7 @@ ghost use Rattle.table.specs.Spelled.{Readable, Rising, clauses, row_at};
 ghost use Rattle.judge_walk.specs.Records.{Record, Stacked, records, falsified, is_stacked};
 
 use rules::{Check, Fault};
-use table::{Found, Row};
+use table::Row;
 
 // ---- SAT: the offered assignment
 
@@ -20,14 +20,12 @@ pub fn assumed_true(words: &[u64; 32], c: &[i32], at: usize) -> Check
     requires { (at ≤ 4096) × (length c.now ≤ 4096) × (all_pass (in_range 2048) c.now ≡ true) }
     ensures { result ≡ paper.assumed_true (assigned words.now) at c.now }
 {
-    let mut i: usize = 0;
-    while i < c.len() {
-        if !lit_sets::is_true(words, c[i]) {
-            return Check::Failed(Fault::Assumption(at + i));
+    for (i, &l) in c.iter().enumerate() {
+        if !lit_sets::is_true(words, l) {
+            return Err(Fault::Assumption(at + i));
         }
-        i += 1;
     }
-    Check::Passed
+    Ok(())
 }
 
 // The row is that of an irredundant clause with no true literal.
@@ -46,27 +44,22 @@ pub fn satisfied(rows: &[Row], pool: &[i32], words: &[u64; 32]) -> Check
     requires { Readable rows.now pool.now }
     ensures { result ≡ paper.satisfied (assigned words.now) (clauses 0 pool.now rows.now) }
 {
-    let mut k: usize = 0;
-    while k < rows.len() {
+    for k in 0..rows.len() {
         if is_falsified(rows, pool, k, words) {
-            return Check::Failed(Fault::Falsified(table::id_at(rows, k)));
+            return Err(Fault::Falsified(table::id_at(rows, k)));
         }
-        k += 1;
     }
-    Check::Passed
+    Ok(())
 }
 
 // ---- the records, of which `stack` has the ids from the bottom
 
-// The row of the record whose id stands at j.
-fn record_at(rows: &[Row], stack: &[u32], j: usize) -> usize
-    requires { Rising rows.now × (j < length stack.now) × (is_stacked rows.now (get_or stack.now j 0) ≡ true) }
-    ensures { Record rows.now (get_or stack.now j 0) result }
+// The row of the record of this id.
+fn record_of(rows: &[Row], id: u32) -> usize
+    requires { Rising rows.now × (is_stacked rows.now id ≡ true) }
+    ensures { Record rows.now id result }
 {
-    let Found::At(k) = table::find(rows, stack[j]) else {
-        return 0;
-    };
-    k
+    table::find(rows, id).unwrap()
 }
 
 // 5: the topmost record against which c is not clean. The clause is marked once, each witness scanned.
@@ -74,19 +67,14 @@ pub fn cleanly(rows: &[Row], pool: &[i32], stack: &[u32], c: &[i32]) -> Check
     requires { Readable rows.now pool.now × Stacked pool.now rows.now stack.now × (all_pass (in_range 2048) c.now ≡ true) }
     ensures { result ≡ paper.cleanly c.now (records pool.now rows.now stack.now) }
 {
-    let marks = lit_clause::mark(c);
-    let plus = marks.plus;
-    let minus = marks.minus;
-    let mut j = stack.len();
-    while j > 0 {
-        let top = j - 1;
-        let k = record_at(rows, stack, top);
-        if lit_clause::opposed(table::witness_of(rows, pool, k), &plus, &minus) {
-            return Check::Failed(Fault::Unclean(table::id_at(rows, k)));
+    let set = lit_clause::mark(c);
+    for j in (0..stack.len()).rev() {
+        let k = record_of(rows, stack[j]);
+        if lit_clause::opposed(table::witness_of(rows, pool, k), &set) {
+            return Err(Fault::Unclean(table::id_at(rows, k)));
         }
-        j = top;
     }
-    Check::Passed
+    Ok(())
 }
 
 // The walk from top to bottom: where a record's clause has no true literal, its witness literals become true.
@@ -95,15 +83,11 @@ pub fn mend(rows: &[Row], pool: &[i32], stack: &[u32], offered: [u64; 32]) -> [u
     ensures { assigned result ≡ frames.mend (assigned offered) (records pool.now rows.now stack.now) }
 {
     let mut words = offered;
-    let mut j = stack.len();
-    while j > 0 {
-        let top = j - 1;
-        let k = record_at(rows, stack, top);
+    for j in (0..stack.len()).rev() {
+        let k = record_of(rows, stack[j]);
         if !lit_clause::satisfied(table::clause_of(rows, pool, k), &words) {
-            let next = lit_sets::make_true(words, table::witness_of(rows, pool, k));
-            words = next;
+            words = lit_sets::make_true(words, table::witness_of(rows, pool, k));
         }
-        j = top;
     }
     words
 }

@@ -2,23 +2,23 @@
 -- common: the start of the later one.
 use mathlib.Core.Path.{◌≡◌, refl, sym, ◌∙◌}
 use mathlib.Core.Logic.{inl, inr, ⊎_elim}
-use mathlib.Core.Bool.{Bool, true, false, ◌||◌, or_assoc, or-false as or-none}
+use mathlib.Core.Bool.{Bool, true, false}
 use mathlib.Core.List.{List, [], ◌∷◌}
 use Prim.Native.Nat.{ℕ, zero, suc, ◌+◌, ◌<◌, ◌≤◌}
 use native.Mathlib.Omega.{arith}
 use lib.Dec.{eqb, ltb, leb}
-use lib.ListN.{length, get_or, set, take, replicate, length-set, length-replicate}
+use lib.ListN.{length, get_or, take, replicate, length-replicate}
 use lib.Seq.{take_all}
 use borrow.Author.Tests.{ltb-true, leb-true, leb-false, lt-ltb, le-leb, eqb-true, eqb-false}
 use Rattle.rules.specs.Lists.{any_passes}
-use Rattle.rules.proofs.Lists.{by_cases, true-false, or-false, and_left, and_right, and_both, or_right, any_last}
-use Rattle.table_slices.proofs.Slices.{taken_on}
+use Rattle.rules.proofs.Lists.{by_cases, true-false, or-false, and_left, and_right, and_both, any_last}
+use Rattle.std.proofs.lemmas.List.{take_more}
 use Rattle.table.specs.Facts.{All, none, both, Pairs, alone}
 use Rattle.table.specs.Spelled.{Row, row_at, start_of, size, Clear}
 use Rattle.table.proofs.Facts.{all_more}
 use Rattle.lent.specs.State.{every_two, clear}
 use Rattle.lent.specs.Marks.{between, PartMarked, Takes}
-use Rattle.lent.proofs.Tests.{two_test, pairs_last, pairs_behind, fails_any, set_mark}
+use Rattle.lent.proofs.Tests.{two_test, pairs_last, pairs_behind, fails_any}
 use Rattle.lent.proofs.Judged.{clear_test, clears_fact}
 
 -- ---- a part's words
@@ -33,56 +33,10 @@ module _ (start end w : ℕ) where
   between_fails : (start ≤ w → w < end → ⊥) → between start end w ≡ false
   between_fails n = by_cases (between start end w) (λ e. let t = between_fact e in absurd (n t.0 t.1)) (λ e. e)
 
--- one word more
-between_next : (start j w : ℕ) → start ≤ j → between start (j + 1) w ≡ (between start j w || eqb w j)
-between_next start j w h = by_cases (eqb w j)
-    (λ e. let q = eqb-true w j e in between_test start (j + 1) w (omega arith) (omega arith) ∙ sym (or_right (between start j w) (eqb w j) e))
-    (λ e.
-    let n = eqb-false w j e in
-    rw e (by_cases (between start j w)
-    (λ t. let b = between_fact start j w t in rw t (between_test start (j + 1) w b.0 (let l = b.1 in omega arith)))
-    (λ t. rw t (between_fails start (j + 1) w (λ a b. true-false (between_test start j w a (omega arith)) t)))))
-
--- ---- a loop that marks the words from start on, up to j
-
-between_none : (start w : ℕ) → between start start w ≡ false
-between_none start w = between_fails start start w (λ a b. omega arith)
-
-pub taken_none : (marks : List Bool) (start : ℕ) → PartMarked marks start start marks
-taken_none marks start = record {
-  long = refl;
-  free = λ w h. true-false h (between_none start w);
-  marked = λ w. let e = between_none start w in rw e (sym (or-none (get_or marks w false)));
-}
-
-module _ {marks₀ : List Bool} {start j : ℕ} {marks : List Bool} (t : PartMarked marks₀ start j marks) (h : start ≤ j) where
-  -- the word at j is as it was found
-  found : get_or marks j false ≡ get_or marks₀ j false
-  found = t.marked j ∙ (let e = between_fails start j j (λ a b. omega arith) in rw e (or-none (get_or marks₀ j false)))
-
-  pub taken_hit : (end : ℕ) → j < end → get_or marks j false ≡ true → Takes marks₀ start end false marks
-  taken_hit end k e = (j, between_test start end j h k, sym found ∙ e)
-
-  pub taken_next : j < length marks → get_or marks j false ≡ false → PartMarked marks₀ start (j + 1) (set marks j true)
-  taken_next k e = record {
-    long = length-set marks j true ∙ t.long;
-    free = λ w b. by_cases (eqb w j)
-        (λ z. let q = eqb-true w j z in rw q (sym found ∙ e))
-        (λ z.
-        let n = eqb-false w j z in
-        let l = between_fact start (j + 1) w b in
-        let u = l.1 in
-        t.free w (between_test start j w l.0 (omega arith)));
-    marked = λ w.
-        let a = t.marked w in
-        let b = between_next start j w h in
-        set_mark marks j w k ∙ rw (a, b) (or_assoc (get_or marks₀ w false) (between start j w) (eqb w j));
-  }
-
--- a part by other names
-pub takes_same : (marks marks' : List Bool) {start start' end end' : ℕ} {b b' : Bool} → start ≡ start' → end ≡ end' → b ≡ b' → Takes marks start end b marks' →
-    Takes marks start' end' b' marks'
-takes_same marks marks' p q r t = rw (p, q, r) at t
+-- a row's part
+pub takes_row : (row : Row) (marks marks' : List Bool) {start n : ℕ} {b b' : Bool} → start ≡ start_of row → n ≡ size row → b ≡ b' → Takes marks start (start + n) b marks' →
+    Takes marks (start_of row) (start_of row + size row) b' marks'
+takes_row row marks marks' p q r t = rw (p, q, r) at t
 
 -- ---- two parts
 
@@ -164,7 +118,7 @@ module _ (rows : List Row) where
 
       pub parted_next : {marks' : List Bool} → PartMarked marks (start_of x) end marks' → Parted rows marks' (i + 1)
       parted_next {marks'} k =
-          let e = taken_on rows i [] more in
+          let e = take_more rows i [] more in
           record {
             within = omega arith;
             room = k.long ∙ t.room;

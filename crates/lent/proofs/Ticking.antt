@@ -12,15 +12,15 @@ use borrow.Author.Tests.{ltb-true, ltb-false, eqb-true, eqb-false, eq-eqb, ne_eq
 use Rattle.rules.specs.Lists.{any_passes, only}
 use Rattle.rules.specs.Terms.{has}
 use Rattle.rules.proofs.Lists.{by_cases, true-false, any_last}
-use Rattle.table_slices.proofs.Slices.{taken_on}
+use Rattle.std.proofs.lemmas.List.{take_more}
 use Rattle.table.specs.Facts.{All, none, alone}
 use Rattle.table.specs.Spelled.{Row, row_at, id_of, place_of, stands, clauses, held, Rising, Located}
-use Rattle.table.specs.declared.Found.TheVariants.{At}
+use Rattle.std.specs.Prelude.{Some}
 use Rattle.table.proofs.Facts.{all_index, all_more, pairs_index}
 use Rattle.table.proofs.Finding.{has_at}
 use Rattle.lent.specs.State.{lists}
 use Rattle.lent.proofs.Tests.{all_last, pairs_last, pairs_behind, any_fails, fails_any, set_mark}
-use Rattle.lent.proofs.Listing.{Once, lists_each, lists_once, lists_many, lists_all}
+use Rattle.lent.proofs.Listing.{Once, lists_each, lists_once, lists_all}
 
 -- rows by rising id: their ids are the same where they are
 same_row : (rows : List Row) (k m : ℕ) → Rising rows → k < length rows → m < length rows → eqb m k ≡ eqb (id_of (row_at rows m)) (id_of (row_at rows k))
@@ -50,9 +50,6 @@ module _ (rows : List Row) (ids : List ℕ) where
   many : (pool : List ℤ) → length (clauses 2 pool rows) ≡ length (only (stands 2) rows)
   many pool = length-map (only (stands 2) rows) (held pool)
 
-  pub miscounted : (length ids ≡ length (only (stands 2) rows) → ⊥) → Answers false
-  miscounted n pool = no_list pool (λ h. n (lists_many ids _ h ∙ many pool))
-
   pub ticked_start : length rows ≤ 1024 → Ticked rows ids (replicate 1024 false) 0
   unfolding any_passes
   ticked_start h = record {
@@ -76,7 +73,7 @@ module _ (rows : List Row) (ids : List ℕ) where
       pub unstacked : ((pool : List ℤ) → has (clauses 2 pool rows) i ≡ false) → Answers false
       unstacked n pool = no_list pool (λ h. true-false (all_index (lists_each ids _ h) j 0 more) (n pool))
 
-      module _ (rising : Rising rows) (k : ℕ) (l : Located rows i (At k)) where
+      module _ (rising : Rising rows) (k : ℕ) (l : Located rows i (Some k)) where
         pub misplaced : (place_of (row_at rows k) ≡ 2 → ⊥) → Answers false
         misplaced n = unstacked (λ pool. let e = l.1 in rw e at (has_at pool rows rising k l.0 2 ∙ ne_eqb (place_of (row_at rows k)) 2 n))
 
@@ -90,7 +87,7 @@ module _ (rows : List Row) (ids : List ℕ) where
 
         ticked_mark : (m : ℕ) → m < length rows → get_or (set marks k true) m false ≡ any_passes (eqb (id_of (row_at rows m))) (take (j + 1) ids)
         ticked_mark m h =
-            let e = taken_on ids j 0 more in
+            let e = take_more ids j 0 more in
             let a = any_last (eqb (id_of (row_at rows m))) (take j ids) i in
             let r = t.room in
             let b = t.marked m h in
@@ -100,7 +97,7 @@ module _ (rows : List Row) (ids : List ℕ) where
 
         pub ticked_next : place_of (row_at rows k) ≡ 2 → get_or marks k false ≡ false → Ticked rows ids (set marks k true) (j + 1)
         ticked_next p h =
-            let e = taken_on ids j 0 more in
+            let e = take_more ids j 0 more in
             let q = l.1 in
             record {
               within = omega arith;

@@ -10,7 +10,7 @@ ghost use Rattle.lent.specs.State.{clear, every_two, inside, lists};
 ghost use Rattle.lent.specs.Stored.{carried_of};
 
 use rules::Answer;
-use table::{Found, PLACE, Row, START, Table};
+use table::{PLACE, Row, START, Table};
 
 // What goes beside the lent tables: V, the highest id accepted, how many entries are held, how many words they hold, how many ids are on the stack,
 // and the stack's ids from its bottom.
@@ -79,13 +79,11 @@ fn mark_part(marks: &mut [bool], start: usize, end: usize) -> bool
     requires { (start ≤ end) × (start < end → end ≤ length marks.old) }
     ensures { Takes marks.old start end result marks.new }
 {
-    let mut w = start;
-    while w < end {
+    for w in start..end {
         if marks[w] {
             return false;
         }
         marks[w] = true;
-        w += 1;
     }
     true
 }
@@ -96,15 +94,12 @@ pub fn are_apart(rows: &[Row], words: usize) -> bool
     ensures { result ≡ every_two clear rows.now }
 {
     let mut marks = [false; 8192];
-    let mut i = 0;
-    while i < rows.len() {
-        let row = rows[i];
+    for &row in rows {
         let start = table::wide(row[START]);
         let end = start + table::size_of(row);
         if !mark_part(&mut marks, start, end) {
             return false;
         }
-        i += 1;
     }
     true
 }
@@ -115,13 +110,11 @@ pub fn are_apart(rows: &[Row], words: usize) -> bool
 fn count_stacked(rows: &[Row]) -> usize
     ensures { result ≡ length (only (stands 2) rows.now) }
 {
-    let mut n: usize = 0;
-    let mut k = 0;
-    while k < rows.len() {
-        if rows[k][PLACE] == 2 {
+    let mut n = 0;
+    for row in rows {
+        if row[PLACE] == 2 {
             n += 1;
         }
-        k += 1;
     }
     n
 }
@@ -135,9 +128,8 @@ pub fn lists_each_once(rows: &[Row], ids: &[u32]) -> bool
         return false;
     }
     let mut marks = [false; 1024];
-    let mut j = 0;
-    while j < ids.len() {
-        let Found::At(k) = table::find(rows, ids[j]) else {
+    for &id in ids {
+        let Some(k) = table::find(rows, id) else {
             return false;
         };
         if table::place_at(rows, k) != 2 {
@@ -147,7 +139,6 @@ pub fn lists_each_once(rows: &[Row], ids: &[u32]) -> bool
             return false;
         }
         marks[k] = true;
-        j += 1;
     }
     true
 }

@@ -1,54 +1,35 @@
 -- What the two loops share that copy between the lent table and the rows: the list after so many turns.
 use mathlib.Core.Path.{◌≡◌, refl, ◌∙◌, sym, ap}
 use mathlib.Core.List.{List, [], ◌∷◌, ◌++◌, map, map-append}
-use Prim.Native.Nat.{ℕ, zero, suc, ◌+◌, ◌<◌, ◌≤◌}
+use Prim.Native.Nat.{ℕ, zero, suc, ◌+◌, ◌<◌}
 use native.Mathlib.Omega.{arith}
-use lib.ListN.{length, get_or, set, take, drop as drop-list, length-append, length-drop, length-map, get_or-map}
-use lib.Seq.{length-take-le, get_or-take}
+use lib.ListN.{length, get_or, set, take, drop as drop-list, length-map, get_or-map}
+use Rattle.std.proofs.lemmas.List.{drop-map}
 use Rattle.table_slices.specs.Writes.{over}
 use Rattle.table_slices.proofs.Slices.{over_next, over_last}
 use Rattle.table.specs.Spelled.{Row}
 use Rattle.lent_entries.specs.Lent.{entry_of, row_of, row_of_entry}
 use Rattle.lent_entries.specs.declared.Entry.{Entry}
 
--- ---- the list d after i turns that put what f makes of the first n of s over it
+-- ---- the list d after i turns that put what f makes of s over it
 
-module _ {A B : Type 0} (f : A → B) (s : List A) (n : ℕ) (d : List B) where
+module _ {A B : Type 0} (f : A → B) (s : List A) (d : List B) where
   abbrev pub copied : ℕ → List B
-  copied i = take i (map f (take n s)) ++ drop-list i d
+  copied i = take i (map f s) ++ drop-list i d
 
-  module _ (ns : n ≤ length s) (nd : n ≤ length d) where
-    length_made : length (map f (take n s)) ≡ n
-    length_made = length-map (take n s) f ∙ length-take-le n s ns
+  pub copied_next : (i : ℕ) (z : A) → i < length s → i < length d → set (copied i) i (f (get_or s i z)) ≡ copied (i + 1)
+  copied_next i z h k =
+      ap (set (copied i) i) (sym (get_or-map f s i z)) ∙ over_next d (map f s) i (f z) k (omega (arith, length-map s f))
 
-    pub copied_next : (i : ℕ) (z : A) → i < n → set (copied i) i (f (get_or s i z)) ≡ copied (i + 1)
-    copied_next i z h =
-        ap (set (copied i) i) (sym (get_or-map f (take n s) i z ∙ ap f (get_or-take n s i z h)))
-        ∙ over_next d (map f (take n s)) i (f z) (omega arith) (omega (arith, length_made))
-
-    pub copied_last : copied n ≡ over d (map f (take n s))
-    copied_last = over_last d (map f (take n s)) n (sym length_made)
-
-    pub length_copied : (i : ℕ) → i ≤ n → length (copied i) ≡ length d
-    length_copied i h =
-        omega (
-          arith,
-          length-append (take i (map f (take n s))) (drop-list i d),
-          length-take-le i (map f (take n s)) (omega (arith, length_made)),
-          length-drop i d,
-        )
+  pub copied_last : (i : ℕ) → i ≡ length s → copied i ≡ over d (map f s)
+  copied_last i e = over_last d (map f s) i (e ∙ sym (length-map s f))
 
 -- ---- what was put over a list, seen through f
-
-map_drop : {A B : Type 0} (f : A → B) (n : ℕ) (l : List A) → map f (drop-list n l) ≡ drop-list n (map f l)
-map_drop f zero l = refl
-map_drop f (suc n) [] = refl
-map_drop f (suc n) (x ∷ l) = map_drop f n l
 
 map_over : {A B : Type 0} (f : A → B) (d s : List A) → map f (over d s) ≡ over (map f d) (map f s)
 map_over f d s =
     map-append f s (drop-list (length s) d) ∙ ap (λ (r : List _). map f s ++ r)
-    (map_drop f (length s) d ∙ ap (λ (k : ℕ). drop-list k (map f d)) (sym (length-map s f)))
+    (sym (drop-map f (length s) d) ∙ ap (λ (k : ℕ). drop-list k (map f d)) (sym (length-map s f)))
 
 -- rows of five numbers are the rows of their entries
 rows_again : (n : ℕ) (rows : List Row) → ((k : ℕ) → k < n → k < length rows → length (get_or rows k []) ≡ 5) → map row_of (map entry_of (take n rows)) ≡ take n rows

@@ -1,16 +1,17 @@
 -- What is lent, taken in as rows and put back: the rows taken in spell what is lent, and what goes back over the entries spells what the working table did.
 -- Nothing here knows of frames.
-use mathlib.Core.Path.{◌≡◌, refl, sym, ap, ◌∙◌}
+use mathlib.Core.Path.{◌≡◌, sym, ap, ◌∙◌}
 use mathlib.Core.Bool.{Bool, true, false}
-use mathlib.Core.List.{List, [], ◌∷◌, map}
+use mathlib.Core.List.{List, map}
 use mathlib.Core.Option.{Option, none, some}
-use Prim.Native.Nat.{ℕ, zero, suc, ◌≤◌, min}
+use Prim.Native.Nat.{ℕ, ◌≤◌, min}
 use native.Mathlib.Omega.{arith}
 use lib.Dec.{leb}
 use lib.IntN.{ℤ}
 use lib.ListN.{length, take, length-map, length-take, length-replicate}
 use lib.Seq.{length-take-le, take-append-le, take_all, take-take}
 use borrow.Author.Tests.{leb-true, leb-false}
+use Rattle.std.proofs.lemmas.List.{take-map}
 use Rattle.rules.specs.Terms.{State}
 use Rattle.rules.specs.Answers.{lent}
 use Rattle.rules.proofs.Lists.{by_cases}
@@ -36,11 +37,6 @@ lent_spelled entries pool c {s} e =
     (λ f. let q : ◌≡◌ {A = Option State} none (some s) = rw f at e in let z : ◌≡◌ {A = ℕ} 0 1 = cc in absurd (omega arith))
 
 -- ---- taken in
-
-map_take : {A B : Type 0} (f : A → B) (n : ℕ) (l : List A) → map f (take n l) ≡ take n (map f l)
-map_take f zero l = refl
-map_take f (suc n) [] = refl
-map_take f (suc n) (x ∷ l) = ap (λ (r : List _). f x ∷ r) (map_take f n l)
 
 module _ (entries : List Entry) (count : ℕ) (few : length entries ≤ 1024) where
   abbrev own : List Row
@@ -69,7 +65,7 @@ module _ (entries : List Entry) (count : ℕ) (few : length entries ≤ 1024) wh
       let n : length (map row_of (take count entries)) ≡ count = length-map (take count entries) row_of ∙ length-take-le count entries h in
       take-take count (length entries) (taken entries count) h
       ∙ rw e (take-append-le count (map row_of (take count entries)) _ (omega arith) ∙ take_all count (map row_of (take count entries)) (omega arith)
-      ∙ map_take row_of count entries)
+      ∙ sym (take-map row_of count entries))
 
 -- the rows taken in spell what is lent
 pub taken_spells : (c : Carried) (entries : List Entry) (pool : List ℤ) → length entries ≤ 1024 →

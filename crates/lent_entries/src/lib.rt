@@ -20,34 +20,21 @@ pub struct Entry {
     pub witness: u32,
 }
 
+const VACANT: Entry = Entry {
+    id: 0,
+    place: 0,
+    start: 0,
+    length: 0,
+    witness: 0,
+};
+
 // ---- the reading of a held clause
 
 // The entry at i; past the table's end an entry that holds nothing.
 pub fn entry_at(entries: &[Entry], i: usize) -> Entry
     ensures { result ≡ entry_at entries.now i }
 {
-    if i < entries.len() {
-        return entries[i];
-    }
-    Entry {
-        id: 0,
-        place: 0,
-        start: 0,
-        length: 0,
-        witness: 0,
-    }
-}
-
-fn lesser(a: usize, b: usize) -> usize
-    ensures { result ≡ min a b }
-{
-    if a < b { a } else { b }
-}
-
-fn wide(x: u32) -> usize
-    ensures { result ≡ x }
-{
-    x as usize
+    entries.get(i).copied().unwrap_or(VACANT)
 }
 
 // Where a part of the pool lies: `length` words from `start` on.
@@ -61,77 +48,68 @@ pub struct Span {
 fn span_of(words: usize, start: usize, n: usize) -> Span
     ensures { Spans words start n result.start result.length }
 {
-    let from = lesser(start, words);
+    let from = start.min(words);
     Span {
         start: from,
-        length: lesser(n, words - from),
+        length: n.min(words - from),
     }
 }
 
 pub fn clause_span(words: usize, e: Entry) -> Span
     ensures { Spans words e.start e.length result.start result.length }
 {
-    span_of(words, wide(e.start), wide(e.length))
+    span_of(words, e.start as usize, e.length as usize)
 }
 
 pub fn witness_span(words: usize, e: Entry) -> Span
     ensures { Spans words (e.start + e.length) e.witness result.start result.length }
 {
-    span_of(words, wide(e.start) + wide(e.length), wide(e.witness))
+    let start = e.start as usize + e.length as usize;
+    span_of(words, start, e.witness as usize)
 }
 
 fn part_at<'a>(pool: &'a [i32], s: Span) -> &'a [i32]
     requires { s.start + s.length ≤ length pool.now }
     ensures { result.now ≡ part pool.now s.start s.length }
 {
-    let from = s.start;
-    let end = from + s.length;
-    &pool[from..end]
-}
-
-fn clause_in<'a>(pool: &'a [i32], e: Entry) -> &'a [i32]
-    ensures { result.now ≡ clause_held e pool.now }
-{
-    part_at(pool, clause_span(pool.len(), e))
-}
-
-fn witness_in<'a>(pool: &'a [i32], e: Entry) -> &'a [i32]
-    ensures { result.now ≡ witness_held e pool.now }
-{
-    part_at(pool, witness_span(pool.len(), e))
+    &pool[s.start..s.start + s.length]
 }
 
 // The literals of the clause that entry i holds: a part of the pool, with no copy.
 pub fn clause_of<'a>(entries: &[Entry], pool: &'a [i32], i: usize) -> &'a [i32]
     ensures { result.now ≡ clause_at entries.now pool.now i }
 {
-    clause_in(pool, entry_at(entries, i))
+    part_at(pool, clause_span(pool.len(), entry_at(entries, i)))
 }
 
 // Those of its witness.
 pub fn witness_of<'a>(entries: &[Entry], pool: &'a [i32], i: usize) -> &'a [i32]
     ensures { result.now ≡ witness_at entries.now pool.now i }
 {
-    witness_in(pool, entry_at(entries, i))
+    part_at(pool, witness_span(pool.len(), entry_at(entries, i)))
 }
 
 // ---- the whole table, as rows and back
 
-fn as_row(e: Entry) -> Row
-    ensures { result ≡ row_of e }
-{
-    [e.id, e.place, e.start, e.length, e.witness]
+impl From<Entry> for Row {
+    ghost from_gives = { λ e row. row ≡ row_of e };
+
+    fn from(e: Entry) -> Row {
+        [e.id, e.place, e.start, e.length, e.witness]
+    }
 }
 
-fn as_entry(row: Row) -> Entry
-    ensures { result ≡ entry_of row }
-{
-    Entry {
-        id: row[ID],
-        place: row[PLACE],
-        start: row[START],
-        length: row[LENGTH],
-        witness: row[WITNESS],
+impl From<Row> for Entry {
+    ghost from_gives = { λ row e. e ≡ entry_of row };
+
+    fn from(row: Row) -> Entry {
+        Entry {
+            id: row[ID],
+            place: row[PLACE],
+            start: row[START],
+            length: row[LENGTH],
+            witness: row[WITNESS],
+        }
     }
 }
 
@@ -141,23 +119,14 @@ pub fn vacant_rows() -> [Row; 1280]
     [[0u32; 5]; 1280]
 }
 
-// Of n entries, how many are taken in where `count` are said to be held.
-fn fitting(n: usize, count: u32) -> usize
-    ensures { result ≡ min (min 1024 count) n }
-{
-    lesser(lesser(1024, wide(count)), n)
-}
-
 // The first `count` entries as rows, as far as there are entries, and at most 1,024: where few are held, few are copied. The rows behind them hold nothing.
 pub fn take_in(entries: &[Entry], count: u32) -> [Row; 1280]
     ensures { result ≡ taken entries.now count }
 {
-    let n = fitting(entries.len(), count);
+    let n = (count as usize).min(1024).min(entries.len());
     let mut rows = vacant_rows();
-    let mut i = 0;
-    while i < n {
-        rows[i] = as_row(entry_at(entries, i));
-        i += 1;
+    for (i, &entry) in entries[..n].iter().enumerate() {
+        rows[i] = Row::from(entry);
     }
     rows
 }
@@ -166,8 +135,14 @@ pub fn take_in(entries: &[Entry], count: u32) -> [Row; 1280]
 pub fn vacant_entries() -> [Entry; 1024]
     ensures { length result ≡ 1024 }
 {
-    let vacant = as_entry([0u32; 5]);
-    [vacant; 1024]
+    [VACANT; 1024]
+}
+
+// What a call hands back, and how many of the rows taken in are to be put back after it.
+#[derive(Clone, Copy)]
+pub struct Ran<T> {
+    pub given: T,
+    pub count: usize,
 }
 
 // The first n rows, as entries, over the first n of the table; so the table's rows are then these over those that it had.
@@ -176,9 +151,7 @@ pub fn put_back(entries: &mut [Entry], n: usize, rows: [Row; 1280])
     ensures { (entries.new ≡ over entries.old (map entry_of (take n rows)))
         × (map row_of entries.new ≡ over (map row_of entries.old) (take n rows)) }
 {
-    let mut k = 0;
-    while k < n {
-        entries[k] = as_entry(rows[k]);
-        k += 1;
+    for (k, &row) in rows[..n].iter().enumerate() {
+        entries[k] = Entry::from(row);
     }
 }

@@ -2,22 +2,20 @@
 use mathlib.Core.Path.{◌≡◌, refl, sym, ◌∙◌}
 use mathlib.Core.Bool.{true, false}
 use mathlib.Core.List.{List, [], ◌∷◌}
-use Prim.Native.Nat.{ℕ, zero, suc, ◌+◌, ◌<◌, ◌≤◌}
+use Prim.Native.Nat.{ℕ, zero, suc, ◌<◌, ◌≤◌}
 use native.Mathlib.Omega.{arith}
-use lib.Dec.{eqb, ltb}
+use lib.Dec.{eqb}
 use lib.IntN.{ℤ}
 use lib.ListN.{length}
-use borrow.Author.Tests.{lt-ltb, le-ltb, lt-leb, le-leb, ne_eqb}
+use borrow.Author.Tests.{lt-leb, ne_eqb}
 use Rattle.rules.specs.Lists.{any_passes}
 use Rattle.rules.specs.Terms.{holds, is_clause, is_witness, null, Held, is_plain, is_record}
 use Rattle.rules.specs.Answers.{flaw, unseen}
-use Rattle.rules.specs.declared.Check.TheVariants.{Passed, Failed}
-use Rattle.rules.specs.declared.Fault.{Fault}
-use Rattle.rules.proofs.Checks.{clause_passes}
+use Rattle.std.specs.Prelude.{Ok, Err, is_ok}
+use Rattle.rules.specs.Results.{Check}
+use Rattle.rules.proofs.Checks.{clause_passes, flaw_clause}
 use Rattle.rules.proofs.Lists.{by_cases}
-use Rattle.table.specs.Spelled.{Row, id_of, place_of, start_of, size, held}
-use Rattle.lent.specs.State.{known, lawful}
-use Rattle.lent_lawful.specs.Rights.{right}
+use Rattle.lent.specs.State.{lawful}
 
 -- ---- a clause
 
@@ -26,12 +24,12 @@ pub clause_long : (vars : ℕ) (c : List ℤ) → 256 < length c → is_clause v
 unfolding is_clause
 clause_long vars c h = let e = lt-leb (length c) 256 h in rw e
 
--- a literal is at fault
-pub clause_flawed : (vars at : ℕ) (c : List ℤ) (f : Fault) → flaw vars unseen at c ≡ Failed f → is_clause vars c ≡ false
-clause_flawed vars at c f e = by_cases (is_clause vars c) (λ t. absurd (apart (sym e ∙ clause_passes vars at c t))) (λ z. z)
-  where
-    apart : Failed f ≡ Passed → ⊥
-    apart q = let z : ◌≡◌ {A = ℕ} 0 1 = cc in omega arith
+-- not too long: it is one unless a literal is at fault
+pub clause_unflawed : (vars at : ℕ) (c : List ℤ) (r : Check) → r ≡ flaw vars unseen at c → length c ≤ 256 → is_ok r ≡ is_clause vars c
+clause_unflawed vars at c (Ok t) e h = sym (flaw_clause vars at c h (sym e))
+clause_unflawed vars at c (Err f) e h = by_cases (is_clause vars c)
+    (λ t. let apart : ◌≡◌ {A = Check} (Err f) (Ok tt) = e ∙ clause_passes vars at c t in cc)
+    (λ z. sym z)
 
 -- ---- a witness
 
@@ -74,23 +72,3 @@ module _ (vars : ℕ) (h : Held) where
   lawful_nowhere (suc zero) l = absurd (omega arith)
   lawful_nowhere (suc (suc zero)) l = absurd (omega arith)
   lawful_nowhere (suc (suc (suc p))) l = refl
-
--- ---- a row
-
-module _ (vars highest : ℕ) (pool : List ℤ) (r : Row) where
-  pub right_zero : id_of r ≡ 0 → right vars highest pool r ≡ false
-  right_zero e = let l = le-ltb 0 (id_of r) (omega arith) in rw l
-
-  pub right_above : highest < id_of r → right vars highest pool r ≡ false
-  right_above h = let l = lt-leb (id_of r) highest h in by_cases (ltb 0 (id_of r)) (λ e. rw (e, l)) (λ e. rw e)
-
-  pub right_past : length pool < start_of r + size r → right vars highest pool r ≡ false
-  right_past h = let l = lt-leb (start_of r + size r) (length pool) h in by_cases (known highest r) (λ e. rw (e, l)) (λ e. rw e)
-
-  pub right_rest : (id_of r ≡ 0 → ⊥) → id_of r ≤ highest → start_of r + size r ≤ length pool →
-      right vars highest pool r ≡ lawful vars (place_of r) (held pool r)
-  right_rest n h i =
-      let a = lt-ltb 0 (id_of r) (omega arith) in
-      let b = le-leb (id_of r) highest h in
-      let e = le-leb (start_of r + size r) (length pool) i in
-      rw (a, b, e)

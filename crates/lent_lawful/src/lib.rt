@@ -9,7 +9,6 @@ ghost use Rattle.table.specs.Spelled.{Inside, held, place_of, row_at, size, star
 ghost use Rattle.lent.specs.State.{lawful};
 ghost use Rattle.lent_lawful.specs.Rights.{right};
 
-use rules::Check;
 use table::{LENGTH, Row, START, WITNESS};
 
 // ---- a row
@@ -21,11 +20,7 @@ fn is_clause(vars: usize, c: &[i32]) -> bool
     if 256 < c.len() {
         return false;
     }
-    let flaw = lit_clause::flaw(vars, c, 0);
-    if let Check::Failed(_) = flaw {
-        return false;
-    }
-    true
+    lit_clause::flaw(vars, c, 0).is_ok()
 }
 
 // A witness of the clause: it shares a literal with it.
@@ -36,10 +31,8 @@ fn is_witness(vars: usize, lits: &[i32], witness: &[i32]) -> bool
     if !is_clause(vars, witness) {
         return false;
     }
-    let marks = lit_clause::mark(witness);
-    let plus = marks.plus;
-    let minus = marks.minus;
-    lit_clause::shares(lits, &plus, &minus)
+    let set = lit_clause::mark(witness);
+    lit_clause::shares(lits, &set)
 }
 
 // The row's clause and witness, as its place asks.
@@ -95,12 +88,10 @@ pub fn are_right(rows: &[Row], pool: &[i32], vars: usize, highest: u32) -> bool
     requires { vars ≤ 2048 }
     ensures { result ≡ all_pass (right vars highest pool.now) rows.now }
 {
-    let mut k = 0;
-    while k < rows.len() {
+    for k in 0..rows.len() {
         if !is_right(rows, pool, k, vars, highest) {
             return false;
         }
-        k += 1;
     }
     true
 }
@@ -111,10 +102,8 @@ pub fn words_of(rows: &[Row]) -> usize
     ensures { result ≡ total size rows.now }
 {
     let mut sum = 0;
-    let mut k = 0;
-    while k < rows.len() {
-        sum += table::size_of(rows[k]);
-        k += 1;
+    for &row in rows {
+        sum += table::size_of(row);
     }
     sum
 }
@@ -125,13 +114,8 @@ pub fn end_of(rows: &[Row]) -> usize
     ensures no_later { (top : ℕ) → All (Inside top) rows.now → result ≤ top }
 {
     let mut top = 0;
-    let mut k = 0;
-    while k < rows.len() {
-        let end = end_at(rows, k);
-        if top < end {
-            top = end;
-        }
-        k += 1;
+    for k in 0..rows.len() {
+        top = top.max(end_at(rows, k));
     }
     top
 }

@@ -19,8 +19,8 @@ use Rattle.lent.proofs.Judged.{others_test}
 use Rattle.lent_order.specs.Orders.{Shuffled, tidied}
 use Rattle.lent_order.proofs.Alike.{arranged_state, arranged_spelled, arranged_count}
 use Rattle.lent_load.specs.Loads.{Loads}
-use Rattle.lent_load.specs.declared.Loaded.{Loaded}
-use Rattle.lent_load.specs.declared.Loaded.TheVariants.{Working, NoState}
+use Rattle.std.specs.Prelude.{Option}
+use Rattle.std.specs.Prelude.{Some, None}
 use Rattle.lent_load.proofs.States.{id_twice, too_deep}
 
 -- ---- the rows as they were before they were arranged
@@ -29,9 +29,9 @@ module _ (c : Carried) (rows : List Row) (pool : List ℤ) {rows' : List Row} (n
   pub arranged_twice : every_two other_id rows' ≡ false → is_state c rows pool ≡ false
   arranged_twice e = arranged_state c pool rows n s ∙ id_twice c rows' pool (arranged_count c pool rows n s) e
 
-  pub arranged_loads : Rising rows' → (r : Loaded) → Loads c rows' pool r rows' → Loads c rows pool r rows'
-  arranged_loads u (Working t) l = (arranged_state c pool rows n s ∙ l.0, l.1, l.2 ∙ sym (arranged_spelled c pool rows n s (others_test rows' u)))
-  arranged_loads u NoState l = arranged_state c pool rows n s ∙ l
+  pub arranged_loads : Rising rows' → (r : Option Table) → Loads c rows' pool r rows' → Loads c rows pool r rows'
+  arranged_loads u (Some t) l = (arranged_state c pool rows n s ∙ l.0, l.1, l.2 ∙ sym (arranged_spelled c pool rows n s (others_test rows' u)))
+  arranged_loads u None l = arranged_state c pool rows n s ∙ l
 
 -- ---- of the rows lent, those that are held
 
@@ -123,5 +123,5 @@ module _ (c : Carried) (rows : List Row) (pool : List ℤ) (h : c.count ≤ leng
       whole_spelled : working.spelled (widened t) all_rows pool c.stack ≡ resized (length rows) (working.spelled t ys pool c.stack)
       whole_spelled = let w = same_rows in rw w
 
-    pub front_loads : (t : Table) → Loads c front pool (Working t) ys → Loads c rows pool (Working (widened t)) all_rows
+    pub front_loads : (t : Table) → Loads c front pool (Some t) ys → Loads c rows pool (Some (widened t)) all_rows
     front_loads t l = (same_state ∙ l.0, whole_fit l.1, whole_spelled l.1 ∙ ap (resized (length rows)) l.2 ∙ sym same_spelled)

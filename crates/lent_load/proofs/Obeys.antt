@@ -27,7 +27,7 @@ use Rattle.lent.proofs.Listing.{lists_many}
 use Rattle.lent_order.specs.Orders.{Shuffled, same, tidied}
 use Rattle.lent_order.proofs.Alike.{arranged_state, arranged_count, arranged_tidy}
 use Rattle.lent_order.proofs.Arranged.{arranged_rows}
-use Rattle.lent_load.specs.declared.Loaded.TheVariants.{Working}
+use Rattle.std.specs.Prelude.{Some}
 use Rattle.lent_load.proofs.States.{Parts, parts_of, rights, rights_inside, stacked_few, Tested, table, loads}
 use Rattle.lent_load.proofs.Held.{too_many, same_state, front_count, arranged_loads, all_rows, widened, front_loads}
 
@@ -99,7 +99,7 @@ module _ (c : Carried) (rows : List Row) (pool : List ℤ) (few : length rows �
     made_of =
         let k : length ys ≡ length front = sym ys_count ∙ count_is in
         let l = front_loads c rows pool held_most few stack-room ys k (table tested)
-        (arranged_loads c front pool count_is s rising (Working (table tested)) (loads tested)) in
+        (arranged_loads c front pool count_is s rising (Some (table tested)) (loads tested)) in
         record {
           table = widened c rows pool held_most few stack-room ys k (table tested);
           working_rows = all_rows c rows pool held_most few stack-room ys k;

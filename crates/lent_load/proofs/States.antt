@@ -23,7 +23,7 @@ use Rattle.lent_order.specs.Orders.{is_tidy}
 use Rattle.lent_order.proofs.Alike.{held_all}
 use Rattle.lent_lawful.specs.Rights.{ends, right}
 use Rattle.lent_load.specs.Loads.{Loads}
-use Rattle.lent_load.specs.declared.Loaded.TheVariants.{Working}
+use Rattle.std.specs.Prelude.{Some}
 
 -- ---- a row that is right
 
@@ -224,5 +224,5 @@ module _ {c : Carried} {rows : List Row} {pool : List ℤ} {top : ℕ} (p : Test
         };
       }
 
-  pub loads : Loads c rows pool (Working table) rows
+  pub loads : Loads c rows pool (Some table) rows
   loads = let n = sym p.counted in (stored_is_state fit refl rows refl n, fit, sym (stored_spells fit refl rows refl n))

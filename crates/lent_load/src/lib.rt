@@ -10,44 +10,38 @@ ghost use Rattle.lent_load.specs.Loads.{Loads, StackLent};
 use lent::Carried;
 use table::{Row, Table};
 
-#[derive(Clone, Copy)]
-pub enum Loaded {
-    Working(Table),
-    NoState,
-}
-
 // Rows by rising id against what is carried: a working table, or no state.
-fn judge(rows: &[Row], pool: &[i32], c: Carried) -> Loaded
+fn judge(rows: &[Row], pool: &[i32], c: Carried) -> Option<Table>
     requires { Rising rows.now × (all_pass is_tidy rows.now ≡ true) × StackLent c × (c.count ≡ length rows.now) × (length rows.now ≤ 1024)
         × (length pool.now ≤ 8192) }
     ensures { Loads c rows.now pool.now result rows.now }
 {
     let vars = table::wide(c.vars);
     if vars == 0 {
-        return Loaded::NoState;
+        return None;
     }
     if 2048 < vars {
-        return Loaded::NoState;
+        return None;
     }
     if 2147483647 < c.highest {
-        return Loaded::NoState;
+        return None;
     }
     if !lent_lawful::are_right(rows, pool, vars, c.highest) {
-        return Loaded::NoState;
+        return None;
     }
     if lent_lawful::words_of(rows) != table::wide(c.words) {
-        return Loaded::NoState;
+        return None;
     }
     if !lent::are_apart(rows, pool.len()) {
-        return Loaded::NoState;
+        return None;
     }
     let stack = c.stack;
     let depth = table::wide(c.depth);
     if !lent::lists_each_once(rows, &stack[..depth]) {
-        return Loaded::NoState;
+        return None;
     }
     let top = lent_lawful::end_of(rows) as u32;
-    Loaded::Working(Table {
+    Some(Table {
         vars: c.vars,
         highest: c.highest,
         entries: c.count,
@@ -60,12 +54,12 @@ fn judge(rows: &[Row], pool: &[i32], c: Carried) -> Loaded
 }
 
 // The rows, all of them held, brought into rising order and judged.
-fn load_held(rows: &mut [Row], pool: &[i32], c: Carried) -> Loaded
+fn load_held(rows: &mut [Row], pool: &[i32], c: Carried) -> Option<Table>
     requires { StackLent c × (c.count ≡ length rows.old) × (length rows.old ≤ 1024) × (length pool.now ≤ 8192) }
     ensures { Loads c rows.old pool.now result rows.new }
 {
     if !lent_order::arrange(rows) {
-        return Loaded::NoState;
+        return None;
     }
     judge(rows, pool, c)
 }
@@ -84,24 +78,20 @@ fn stack_room(stack: &[u32; 1024]) -> usize
 }
 
 // Brings the rows held into rising order and judges them.
-pub fn load(rows: &mut [Row], pool: &[i32], c: Carried) -> Loaded
+pub fn load(rows: &mut [Row], pool: &[i32], c: Carried) -> Option<Table>
     requires { (length rows.old ≤ 1024) × (length pool.now ≤ 8192) }
     ensures { Loads c rows.old pool.now result rows.new }
 {
     let count = table::wide(c.count);
     if rows.len() < count {
-        return Loaded::NoState;
+        return None;
     }
     let stack = c.stack;
     if stack_room(&stack) < table::wide(c.depth) {
-        return Loaded::NoState;
+        return None;
     }
     // load_held sees the rows held alone, but as many clauses may be held as there are rows lent.
     let entries = rows.len() as u32;
-    let Loaded::Working(t) = load_held(&mut rows[..count], pool, c) else {
-        return Loaded::NoState;
-    };
-    let mut u = t;
-    u.entries = entries;
-    Loaded::Working(u)
+    let t = load_held(&mut rows[..count], pool, c)?;
+    Some(Table { entries, ..t })
 }

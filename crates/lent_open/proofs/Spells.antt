@@ -10,7 +10,7 @@ use lib.IntN.{ℤ}
 use lib.ListN.{length, length-map, replicate, length-replicate}
 use borrow.Author.Tests.{ltb-true, leb-true}
 use Rattle.rules.specs.Answers.{lent, check_open, opened}
-use Rattle.rules.specs.declared.Check.TheVariants.{Passed}
+use Rattle.std.specs.Prelude.{Ok, Err}
 use Rattle.rules.proofs.Checks.{then_left, then_right, need_true}
 use Rattle.rules.proofs.Lists.{and_left, and_right}
 use Rattle.table.specs.Spelled.{Fit}
@@ -22,7 +22,7 @@ use Rattle.lent.proofs.Stored.{stored_is_state, stored_spells}
 use Rattle.lent.specs.declared.Called.{Called}
 use Rattle.lent_open.specs.Opened.{empty, opened_with}
 
-module _ (vars : ℕ) (entries : List Entry) (pool : List ℤ) (k : check_open vars (length entries) (length pool) ≡ Passed) where
+module _ (vars : ℕ) (entries : List Entry) (pool : List ℤ) (k : check_open vars (length entries) (length pool) ≡ Ok tt) where
   fits : lent (length entries) (length pool) ≡ true
   unfolding check_open
   fits = need_true _ _ (then_left _ _ k)
@@ -53,9 +53,9 @@ module _ (vars : ℕ) (entries : List Entry) (pool : List ℤ) (k : check_open v
       rw (f, s) (ap some e)
 
 -- over any tables of the sizes opened
-pub opened_spells : (vars : ℕ) {n w : ℕ} (entries : List Entry) (pool : List ℤ) → length entries ≡ n → length pool ≡ w → check_open vars n w ≡ Passed →
+pub opened_spells : (vars : ℕ) {n w : ℕ} (entries : List Entry) (pool : List ℤ) → length entries ≡ n → length pool ≡ w → check_open vars n w ≡ Ok tt →
     {r : Called} → r ≡ opened_with vars (check_open vars n w) → state_lent entries pool r.carried ≡ some (opened vars n w)
 opened_spells vars {n} {w} entries pool a b k {r} e =
     let carried : r.carried ≡ empty vars = ap (λ (x : Called). x.carried) (e ∙ ap (opened_with vars) k) in
-    let same : check_open vars (length entries) (length pool) ≡ Passed = rw (a, b) k in
+    let same : check_open vars (length entries) (length pool) ≡ Ok tt = rw (a, b) k in
     rw carried (spells_opened vars entries pool same ∙ rw (a, b))

@@ -1,8 +1,7 @@
 -- What an opening hands out: an answer, and what is carried.
 use Rattle.std.specs.Prelude.{ℕ, replicate}
-use Rattle.rules.specs.declared.Answer.TheVariants.{Accepted, Refused}
-use Rattle.rules.specs.declared.Check.{Check}
-use Rattle.rules.specs.declared.Check.TheVariants.{Passed, Failed}
+use Rattle.std.specs.Prelude.{Ok, Err}
+use Rattle.rules.specs.Results.{Check}
 use Rattle.rules.specs.declared.Fault.{Fault}
 use Rattle.lent.specs.declared.Called.{Called}
 use Rattle.lent.specs.declared.Carried.{Carried}
@@ -12,8 +11,8 @@ abbrev pub empty : ℕ → Carried
 empty vars = record { vars = vars; highest = 0; count = 0; words = 0; depth = 0; stack = replicate 1024 0 }
 
 abbrev pub unopened_with : Fault → Called
-unopened_with e = record { answer = Refused e; carried = empty 0 }
+unopened_with e = record { answer = Err e; carried = empty 0 }
 
 abbrev pub opened_with : ℕ → Check → Called
-opened_with vars Passed = record { answer = Accepted 0; carried = empty vars }
-opened_with vars (Failed e) = unopened_with e
+opened_with vars (Ok tt) = record { answer = Ok 0; carried = empty vars }
+opened_with vars (Err e) = unopened_with e

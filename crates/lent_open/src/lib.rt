@@ -27,7 +27,7 @@ fn unopened(fault: Fault) -> Called
     ensures { result ≡ unopened_with fault }
 {
     Called {
-        answer: Answer::Refused(fault),
+        answer: Err(fault),
         carried: empty(0),
     }
 }
@@ -44,7 +44,7 @@ pub fn open_sized(vars: u32, entries: usize, words: usize) -> Called
             return unopened(Fault::Literal(0));
         }
         return Called {
-            answer: Answer::Accepted(0),
+            answer: Ok(0),
             carried: empty(vars),
         };
     }

@@ -5,7 +5,7 @@ use Prim.Native.Nat.{ℕ, ◌-◌, min}
 use lib.IntN.{ℤ}
 use lib.ListN.{length}
 use Rattle.rules.specs.Answers.{numbers}
-use Rattle.rules.specs.declared.Answer.{Answer}
+use Rattle.rules.specs.Results.{Answer}
 use Rattle.lent_entries.specs.declared.Entry.{Entry}
 use Rattle.lent.specs.declared.Carried.{Carried}
 use Rattle.lent.specs.declared.Called.{Called}

@@ -16,8 +16,9 @@ use Rattle.dimacs.specs.declared.TextFault.TheVariants.{VarsOutOfRange, Unclosed
 use Rattle.dimacs_frames.specs.Yields.{yields_into, yield_numbers, cursor_after}
 use Rattle.dimacs_frames.specs.Series.{Series, no_frame, then_frame}
 use Rattle.dimacs_frames.specs.declared.Cursor.{Cursor}
-use Rattle.dimacs_frames.specs.declared.Yield.{Yield}
-use Rattle.dimacs_frames.specs.declared.Yield.TheVariants.{Frame, NoneLeft, Faulty, NoBuffer, NoId}
+use Rattle.dimacs_frames.specs.Yielding.{Yield, yielded}
+use Rattle.std.specs.Prelude.{Ok, Some, None, Err}
+use Rattle.dimacs_frames.specs.declared.YieldError.TheVariants.{Faulty, NoBuffer, NoId}
 use Rattle.dimacs_frames.proofs.Series as handing
 use Rattle.lent_entries.specs.declared.Entry.{Entry}
 use Rattle.lent.specs.declared.Carried.{Carried}
@@ -68,12 +69,12 @@ fault_told (UnclosedClause at) e = omega arith
 fault_told (WrongClauseCount at) e = omega arith
 
 -- so the numbers say which frame it was
-frame_told : (y : Yield) (c : Cursor) {c' : Cursor} {r : Numbers} → Told (yield_numbers y) r → c' ≡ cursor_after y c → FrameTold r → y ≡ Frame r.detail c'
-frame_told (Frame n d) c t m f = ap₂ (λ (k : ℕ) (b : Cursor). Frame k b) (sym t.1) (sym m)
-frame_told NoneLeft c t m f = absurd (omega arith)
-frame_told (Faulty fault) c t m f = absurd (fault_told fault (sym t.0 ∙ f.0))
-frame_told NoBuffer c t m f = absurd (omega arith)
-frame_told NoId c t m f = absurd (omega arith)
+frame_told : (y : Yield) (c : Cursor) {c' : Cursor} {r : Numbers} → Told (yield_numbers y) r → c' ≡ cursor_after y c → FrameTold r → y ≡ yielded r.detail c'
+frame_told (Ok (Some y)) c t m f = ap₂ (λ (k : ℕ) (b : Cursor). yielded k b) (sym t.1) (sym m)
+frame_told (Ok None) c t m f = absurd (omega arith)
+frame_told (Err (Faulty fault)) c t m f = absurd (fault_told fault (sym t.0 ∙ f.0))
+frame_told (Err NoBuffer) c t m f = absurd (omega arith)
+frame_told (Err NoId) c t m f = absurd (omega arith)
 
 -- a series of the archive's calls is one of the calls that they export
 series_of : {text : List ℕ} {c : Cursor} {fs : List (List ℤ)} {r : Numbers} → NextSeries text c fs r

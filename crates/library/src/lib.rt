@@ -7,11 +7,13 @@ ghost use Rattle.library.specs.Exported.{OpenExported, StepExported, Names, Give
 ghost use Rattle.library.specs.Texts.{JudgeExported, NextExported};
 ghost use Rattle.library.specs.Proofs.{CheckExported, LratGiveExported, LratOpenExported};
 
+use call_lrat_parts::ProofReading;
 use dimacs_frames::Cursor;
 use lent::Carried;
 use lent_entries::Entry;
 use library_back::{CnfCounts, Counts, Numbers, Part, Reading};
 use library_proofs::ProofState;
+use line_read::Reader;
 
 // An opening over the lent tables, of which only the sizes matter. What is carried is written when it is accepted.
 #[unsafe(no_mangle)]
@@ -25,7 +27,7 @@ pub extern "C" fn zahrubel_open(
 {
     let opened = call_step::open(vars, entries, pool);
     *carried = library_back::after_opening(opened, *carried);
-    library_back::numbers_of(opened.answer)
+    Numbers::from(opened.answer)
 }
 
 // One frame over the lent tables, with what is carried behind a reference: it is read, and written back as the call hands it back.
@@ -43,7 +45,7 @@ pub extern "C" fn zahrubel_step(
 {
     let stepped = call_step::step(entries, pool, *carried, frame, model);
     *carried = stepped.carried;
-    library_back::numbers_of(stepped.answer)
+    Numbers::from(stepped.answer)
 }
 
 // ---- the reading of a held clause
@@ -89,7 +91,7 @@ pub extern "C" fn zahrubel_give(
         entries,
         pool,
         *carried,
-        library_back::reader_of(*reader),
+        Reader::from(*reader),
         frame,
         part,
         out,
@@ -112,7 +114,7 @@ pub extern "C" fn zahrubel_give(
 pub extern "C" fn zahrubel_end(reader: &Reading, out: &mut [u8], written: &mut u64) -> Numbers
     ensures { EndExported reader.now out.old result out.new written.new }
 {
-    let back = library_back::end_back(call_give::end(library_back::reader_of(*reader), out));
+    let back = library_back::end_back(call_give::end(Reader::from(*reader), out));
     *written = back.written;
     back.numbers
 }
@@ -174,13 +176,7 @@ pub extern "C" fn zahrubel_lrat_open(
     ensures { LratOpenExported entries.old pool.old carried.old proof.old cnf.now result
         entries.new pool.new carried.new proof.new }
 {
-    let given = call_lrat_parts::open(
-        entries,
-        pool,
-        *carried,
-        library_proofs::reading_of(*proof),
-        cnf,
-    );
+    let given = call_lrat_parts::open(entries, pool, *carried, ProofReading::from(*proof), cnf);
     let back = library_proofs::opening_back(given.answer, given.reading, *proof);
     *carried = given.carried;
     *proof = back.state;
@@ -204,7 +200,7 @@ pub extern "C" fn zahrubel_lrat_give(
         entries,
         pool,
         *carried,
-        library_proofs::reading_of(*proof),
+        ProofReading::from(*proof),
         part,
         library_proofs::is_set(last),
     );

@@ -1,8 +1,8 @@
 -- What goes back over the archive's calls: an answer as its two numbers, what is carried and read after a call, what a part and the end of input came to.
 use Rattle.std.specs.Prelude.{◌≡◌, not, cond, ℕ, eqb}
 use Rattle.rules.specs.Answers.{numbers}
-use Rattle.rules.specs.declared.Answer.{Answer}
-use Rattle.rules.specs.declared.Answer.TheVariants.{Accepted, Refused}
+use Rattle.rules.specs.Results.{Answer}
+use Rattle.std.specs.Prelude.{Ok, Err}
 use Rattle.lent.specs.declared.Carried.{Carried}
 use Rattle.line_read.specs.declared.Reader.{Reader}
 use Rattle.call_give.specs.declared.Ended.{Ended}
@@ -17,8 +17,8 @@ Numbered answer r = (r.code ≡ (numbers answer).0) × (r.detail ≡ (numbers an
 
 -- what is carried after an opening with this answer: a refused one writes nothing
 abbrev pub carried_after : Answer → Carried → Carried → Carried
-carried_after (Accepted changed) opened before = opened
-carried_after (Refused fault) opened before = before
+carried_after (Ok changed) opened before = opened
+carried_after (Err fault) opened before = before
 
 -- ---- parts of the input
 
@@ -31,8 +31,8 @@ reading_of r = record { digits = r.digits; word = r.word; spoilt = cond r.spoilt
 
 -- what is read after a part with this answer: a refused one leaves every word
 abbrev pub read_after : Answer → Reader → Reading → Reading
-read_after (Accepted changed) read before = reading_of read
-read_after (Refused fault) read before = before
+read_after (Ok changed) read before = reading_of read
+read_after (Err fault) read before = before
 
 abbrev pub PartHanding : Answer → Reader → ℕ → ℕ → Reading → PartHanded → Type 0
 PartHanding answer reader taken written before h =

@@ -1,7 +1,7 @@
 // What goes back over the archive's calls: an answer as its two numbers, the parts of the pool, what is read, what a text came to.
 #![tactic(auto)]
 
-ghost use Rattle.std.specs.Prelude.{◌≡◌, ◌+◌, cond};
+ghost use Rattle.std.specs.Prelude.{◌≡◌, ◌+◌};
 ghost use Rattle.lent_entries.specs.Lent.{Spans};
 ghost use Rattle.dimacs.specs.Reading.{fault_numbers};
 ghost use Rattle.dimacs_frames.specs.Yields.{yield_numbers, cursor_after};
@@ -9,8 +9,8 @@ ghost use Rattle.library_back.specs.Handed.{Numbered, carried_after, reader_of, 
 ghost use Rattle.library_back.specs.Told.{Told, CnfHanding, NextHanding};
 
 use call_give::Ended;
-use dimacs::{TextAnswer, TextFault};
-use dimacs_frames::{Cursor, Yield};
+use dimacs::{TextCounts, TextFault};
+use dimacs_frames::{Cursor, Yield, YieldError};
 use lent::{Called, Carried};
 use lent_entries::{Entry, Span};
 use line_read::Reader;
@@ -24,24 +24,14 @@ pub struct Numbers {
     pub detail: u64,
 }
 
-fn wide(x: u32) -> u64
-    ensures { result ≡ x }
-{
-    x as u64
-}
+impl From<Answer> for Numbers {
+    ghost from_gives = { λ answer n. Numbered answer n };
 
-fn word(x: usize) -> u64
-    ensures { result ≡ x }
-{
-    x as u64
-}
-
-pub fn numbers_of(answer: Answer) -> Numbers
-    ensures { Numbered answer result }
-{
-    Numbers {
-        code: wide(rules_codes::code(answer)),
-        detail: word(rules_codes::detail(answer)),
+    fn from(answer: Answer) -> Numbers {
+        Numbers {
+            code: u64::from(rules_codes::code(answer)),
+            detail: rules_codes::detail(answer) as u64,
+        }
     }
 }
 
@@ -49,10 +39,9 @@ pub fn numbers_of(answer: Answer) -> Numbers
 pub fn after_opening(opened: Called, before: Carried) -> Carried
     ensures { result ≡ carried_after opened.answer opened.carried before }
 {
-    let answer = opened.answer;
-    match answer {
-        Answer::Accepted(_) => opened.carried,
-        Answer::Refused(_) => before,
+    match opened.answer {
+        Ok(_) => opened.carried,
+        Err(_) => before,
     }
 }
 
@@ -66,25 +55,27 @@ pub struct Part {
     pub length: u64,
 }
 
-fn part_of(s: Span) -> Part
-    ensures { (result.start ≡ s.start) × (result.length ≡ s.length) }
-{
-    Part {
-        start: word(s.start),
-        length: word(s.length),
+impl From<Span> for Part {
+    ghost from_gives = { λ s p. (p.start ≡ s.start) × (p.length ≡ s.length) };
+
+    fn from(s: Span) -> Part {
+        Part {
+            start: s.start as u64,
+            length: s.length as u64,
+        }
     }
 }
 
 pub fn clause_part(words: usize, e: Entry) -> Part
     ensures { Spans words e.start e.length result.start result.length }
 {
-    part_of(lent_entries::clause_span(words, e))
+    Part::from(lent_entries::clause_span(words, e))
 }
 
 pub fn witness_part(words: usize, e: Entry) -> Part
     ensures { Spans words (e.start + e.length) e.witness result.start result.length }
 {
-    part_of(lent_entries::witness_span(words, e))
+    Part::from(lent_entries::witness_span(words, e))
 }
 
 // ---- parts of the input
@@ -106,35 +97,27 @@ pub struct Counts {
     pub written: u64,
 }
 
-fn size(x: u64) -> usize
-    ensures { result ≡ x }
-{
-    x as usize
-}
+impl From<Reading> for Reader {
+    ghost from_gives = { λ x r. r ≡ reader_of x };
 
-fn bit(b: bool) -> u64
-    ensures { result ≡ cond b 1 0 }
-{
-    if b { 1 } else { 0 }
-}
-
-pub fn reader_of(x: Reading) -> Reader
-    ensures { result ≡ reader_of x }
-{
-    Reader {
-        digits: size(x.digits),
-        word: x.word,
-        spoilt: x.spoilt != 0,
+    fn from(x: Reading) -> Reader {
+        Reader {
+            digits: x.digits as usize,
+            word: x.word,
+            spoilt: x.spoilt != 0,
+        }
     }
 }
 
-fn reading_of(r: Reader) -> Reading
-    ensures { result ≡ reading_of r }
-{
-    Reading {
-        digits: word(r.digits),
-        word: r.word,
-        spoilt: bit(r.spoilt),
+impl From<Reader> for Reading {
+    ghost from_gives = { λ r x. x ≡ reading_of r };
+
+    fn from(r: Reader) -> Reading {
+        Reading {
+            digits: r.digits as u64,
+            word: r.word,
+            spoilt: u64::from(r.spoilt),
+        }
     }
 }
 
@@ -142,10 +125,9 @@ fn reading_of(r: Reader) -> Reading
 fn reading_after(answer: Answer, reader: Reader, lent: Reading) -> Reading
     ensures { result ≡ read_after answer reader lent }
 {
-    let read = reading_of(reader);
     match answer {
-        Answer::Accepted(_) => read,
-        Answer::Refused(_) => lent,
+        Ok(_) => Reading::from(reader),
+        Err(_) => lent,
     }
 }
 
@@ -167,11 +149,11 @@ pub fn hand_back(
     ensures { PartHanding answer reader taken written before result }
 {
     PartHanded {
-        numbers: numbers_of(answer),
+        numbers: Numbers::from(answer),
         reading: reading_after(answer, reader, before),
         counts: Counts {
-            taken: word(taken),
-            written: word(written),
+            taken: taken as u64,
+            written: written as u64,
         },
     }
 }
@@ -186,10 +168,9 @@ pub struct EndHanded {
 pub fn end_back(ended: Ended) -> EndHanded
     ensures { EndHanding ended result }
 {
-    let answer = ended.answer;
     EndHanded {
-        numbers: numbers_of(answer),
-        written: word(ended.written),
+        numbers: Numbers::from(ended.answer),
+        written: ended.written as u64,
     }
 }
 
@@ -203,12 +184,14 @@ pub struct CnfCounts {
     pub clauses: u64,
 }
 
-fn numbers_of_fault(fault: TextFault) -> Numbers
-    ensures { Told (fault_numbers fault) result }
-{
-    Numbers {
-        code: wide(dimacs_codes::code(fault)),
-        detail: word(dimacs_codes::position(fault)),
+impl From<TextFault> for Numbers {
+    ghost from_gives = { λ fault n. Told (fault_numbers fault) n };
+
+    fn from(fault: TextFault) -> Numbers {
+        Numbers {
+            code: u64::from(dimacs_codes::code(fault)),
+            detail: dimacs_codes::position(fault) as u64,
+        }
     }
 }
 
@@ -220,19 +203,19 @@ pub struct CnfHanded {
 }
 
 // A faulty text leaves what was there before.
-pub fn judge_back(answer: TextAnswer, before: CnfCounts) -> CnfHanded
+pub fn judge_back(answer: Result<TextCounts, TextFault>, before: CnfCounts) -> CnfHanded
     ensures { CnfHanding answer before result }
 {
     match answer {
-        TextAnswer::Sound(vars, clauses) => CnfHanded {
+        Ok(counts) => CnfHanded {
             numbers: Numbers { code: 0, detail: 0 },
             cnf: CnfCounts {
-                vars: wide(vars),
-                clauses: word(clauses),
+                vars: u64::from(counts.vars),
+                clauses: counts.clauses as u64,
             },
         },
-        TextAnswer::Faulty(fault) => CnfHanded {
-            numbers: numbers_of_fault(fault),
+        Err(fault) => CnfHanded {
+            numbers: Numbers::from(fault),
             cnf: before,
         },
     }
@@ -245,21 +228,23 @@ pub struct NextHanded {
     pub cursor: Cursor,
 }
 
-fn numbers_of_yield(yielded: Yield) -> Numbers
-    ensures { Told (yield_numbers yielded) result }
-{
-    match yielded {
-        Yield::Frame(words, _) => Numbers {
-            code: 0,
-            detail: word(words),
-        },
-        Yield::NoneLeft => Numbers { code: 0, detail: 0 },
-        Yield::Faulty(fault) => numbers_of_fault(fault),
-        Yield::NoBuffer => Numbers { code: 1, detail: 0 },
-        Yield::NoId => Numbers {
-            code: 4,
-            detail: 2147483648,
-        },
+impl From<Yield> for Numbers {
+    ghost from_gives = { λ yielded n. Told (yield_numbers yielded) n };
+
+    fn from(yielded: Yield) -> Numbers {
+        match yielded {
+            Ok(Some(frame)) => Numbers {
+                code: 0,
+                detail: frame.words as u64,
+            },
+            Ok(None) => Numbers { code: 0, detail: 0 },
+            Err(YieldError::Faulty(fault)) => Numbers::from(fault),
+            Err(YieldError::NoBuffer) => Numbers { code: 1, detail: 0 },
+            Err(YieldError::NoId) => Numbers {
+                code: 4,
+                detail: 2147483648,
+            },
+        }
     }
 }
 
@@ -267,11 +252,8 @@ fn cursor_after(yielded: Yield, before: Cursor) -> Cursor
     ensures { result ≡ cursor_after yielded before }
 {
     match yielded {
-        Yield::Frame(_, cursor) => cursor,
-        Yield::NoneLeft => before,
-        Yield::Faulty(_) => before,
-        Yield::NoBuffer => before,
-        Yield::NoId => before,
+        Ok(Some(frame)) => frame.behind,
+        Ok(None) | Err(_) => before,
     }
 }
 
@@ -279,7 +261,7 @@ pub fn next_back(yielded: Yield, before: Cursor) -> NextHanded
     ensures { NextHanding yielded before result }
 {
     NextHanded {
-        numbers: numbers_of_yield(yielded),
+        numbers: Numbers::from(yielded),
         cursor: cursor_after(yielded, before),
     }
 }

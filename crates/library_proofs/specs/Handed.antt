@@ -27,8 +27,7 @@ reading_of s = record {
         code = s.code;
       };
   lits = s.lits;
-  plus = s.plus;
-  minus = s.minuses;
+  falses = record { plus = s.plus; minus = s.minuses };
 }
 
 abbrev pub state_of : ProofReading → ProofState
@@ -46,8 +45,8 @@ state_of r = record {
   code = r.reader.code;
   spare = 0;
   lits = r.lits;
-  plus = r.plus;
-  minuses = r.minus;
+  plus = r.falses.plus;
+  minuses = r.falses.minus;
 }
 
 -- ---- what goes back

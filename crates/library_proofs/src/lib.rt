@@ -1,25 +1,20 @@
 // What goes in and back over the archive's calls on proofs.
 #![tactic(auto)]
 
-ghost use Rattle.std.specs.Prelude.{◌≡◌, cond, not, eqb};
+ghost use Rattle.std.specs.Prelude.{◌≡◌, not, eqb};
 ghost use Rattle.library_proofs.specs.Handed.{handed_part, handed_opening, lrat_numbers, reading_of, state_of};
 
 use call_lrat_parts::ProofReading;
 use library_back::Numbers;
+use lit_sets::LitSet;
 use lrat::{LratAnswer, ProofLine, ProofReader, ProofWord};
 
-fn wide(x: u32) -> u64
-    ensures { result ≡ x }
-{
-    x as u64
-}
-
-// An answer as its two numbers.
+// An answer as its two numbers. It is no `From`: neither type is of this crate.
 pub fn numbers_of(answer: LratAnswer) -> Numbers
     ensures { result ≡ lrat_numbers answer }
 {
     Numbers {
-        code: wide(answer.code),
+        code: u64::from(answer.code),
         detail: answer.detail,
     }
 }
@@ -54,70 +49,69 @@ pub fn is_set(x: u32) -> bool
     x != 0
 }
 
-fn bit(b: bool) -> u32
-    ensures { result ≡ cond b 1 0 }
-{
-    if b { 1 } else { 0 }
-}
+impl From<ProofState> for ProofReading {
+    ghost from_gives = { λ s r. r ≡ reading_of s };
 
-pub fn reading_of(s: ProofState) -> ProofReading
-    ensures { result ≡ reading_of s }
-{
-    let word = ProofWord {
-        kind: s.kind,
-        minus: is_set(s.minus),
-        value: s.value,
-    };
-    let line = ProofLine {
-        phase: s.phase,
-        noted: s.noted,
-        id: s.id,
-        count: s.count,
-        proof: s.proof,
-    };
-    let reader = ProofReader {
-        word,
-        line,
-        lines: s.lines,
-        over: is_set(s.over),
-        code: s.code,
-    };
-    let lits = s.lits;
-    let plus = s.plus;
-    let minus = s.minuses;
-    ProofReading {
-        reader,
-        lits,
-        plus,
-        minus,
+    fn from(s: ProofState) -> ProofReading {
+        let word = ProofWord {
+            kind: s.kind,
+            minus: is_set(s.minus),
+            value: s.value,
+        };
+        let line = ProofLine {
+            phase: s.phase,
+            noted: s.noted,
+            id: s.id,
+            count: s.count,
+            proof: s.proof,
+        };
+        let reader = ProofReader {
+            word,
+            line,
+            lines: s.lines,
+            over: is_set(s.over),
+            code: s.code,
+        };
+        let lits = s.lits;
+        let plus = s.plus;
+        let minus = s.minuses;
+        let falses = LitSet { plus, minus };
+        ProofReading {
+            reader,
+            lits,
+            falses,
+        }
     }
 }
 
-fn state_of(r: ProofReading) -> ProofState
-    ensures { result ≡ state_of r }
-{
-    let reader = r.reader;
-    let word = reader.word;
-    let line = reader.line;
-    let lits = r.lits;
-    let plus = r.plus;
-    let minuses = r.minus;
-    ProofState {
-        lines: reader.lines,
-        value: word.value,
-        kind: word.kind,
-        minus: bit(word.minus),
-        phase: line.phase,
-        noted: line.noted,
-        id: line.id,
-        count: line.count,
-        proof: line.proof,
-        over: bit(reader.over),
-        code: reader.code,
-        spare: 0,
-        lits,
-        plus,
-        minuses,
+impl From<ProofReading> for ProofState {
+    ghost from_gives = { λ r s. s ≡ state_of r };
+
+    fn from(r: ProofReading) -> ProofState {
+        let reader = r.reader;
+        let word = reader.word;
+        let line = reader.line;
+        let lits = r.lits;
+        let falses = r.falses;
+        let plus = falses.plus;
+        let minuses = falses.minus;
+        ProofState {
+            lines: reader.lines,
+            value: word.value,
+            kind: word.kind,
+            minus: u32::from(word.minus),
+            phase: line.phase,
+            noted: line.noted,
+            id: line.id,
+            count: line.count,
+            proof: line.proof,
+            over: u32::from(reader.over),
+            code: reader.code,
+            spare: 0,
+            lits,
+            plus,
+            minuses,
+        }
     }
 }
 
@@ -137,7 +131,7 @@ pub fn opening_back(answer: LratAnswer, reading: ProofReading, before: ProofStat
     if answer.code == 0 {
         return ProofHanded {
             numbers,
-            state: state_of(reading),
+            state: ProofState::from(reading),
         };
     }
     ProofHanded {
@@ -159,6 +153,6 @@ pub fn part_back(answer: LratAnswer, reading: ProofReading, before: ProofState) 
     }
     ProofHanded {
         numbers,
-        state: state_of(reading),
+        state: ProofState::from(reading),
     }
 }

@@ -8,7 +8,7 @@ use Rattle.rules.specs.Terms.{Assignment}
 use Rattle.rules.specs.Frames.{SAT, offered, mend}
 use Rattle.rules.specs.Answers.{check}
 use Rattle.rules.specs.Outcomes.{trues}
-use Rattle.rules.specs.declared.Check.TheVariants.{Passed}
+use Rattle.std.specs.Prelude.{Ok, Err}
 use Rattle.rules.proofs.Past.{past_none, handed_none}
 use Rattle.table.specs.Spelled.{Row, spelled, Fit}
 use Rattle.table.specs.declared.Table.{Table}
@@ -17,7 +17,7 @@ use Rattle.line_reply.proofs.Model.{trues_past}
 
 -- the true variables of an accepted model, of all 2,048 and of the first V
 pub trues_within : {t : Table} {rows : List Row} {pool : List ℤ} {stack : List ℕ} → Fit t rows pool stack → (assumed vs : List ℤ) →
-    check (spelled t rows pool stack) (SAT assumed vs) ≡ Passed →
+    check (spelled t rows pool stack) (SAT assumed vs) ≡ Ok tt →
     let β = mend (offered vs) (spelled t rows pool stack).stack in trues β 2048 [] ≡ trues β t.vars []
 trues_within {t} {rows} {pool} {stack} fit assumed vs e =
     let s = spelled t rows pool stack in

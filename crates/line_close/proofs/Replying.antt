@@ -9,9 +9,8 @@ use Rattle.rules.specs.Terms.{State}
 use Rattle.rules.specs.Frames.{Frame, ADD, LEARN, FORGET, PROMOTE, DROP, WEAKEN, RESTORE, SAT, UNSAT, Parsed, malformed, framed, parse}
 use Rattle.rules.specs.Answers.{check, settled, outcome, outcome_parsed, altered}
 use Rattle.rules.specs.Outcomes.{trues}
-use Rattle.rules.specs.declared.Check.{Check}
-use Rattle.rules.specs.declared.Check.TheVariants.{Passed, Failed}
-use Rattle.rules.specs.declared.Answer.TheVariants.{Refused}
+use Rattle.rules.specs.Results.{Check}
+use Rattle.std.specs.Prelude.{Ok, Err}
 use Rattle.rules.specs.declared.Fault.TheVariants.{Malformed}
 use Rattle.table.specs.Spelled.{Row, spelled, Fit}
 use Rattle.table.specs.declared.Table.{Table}
@@ -35,16 +34,16 @@ module _ {t : Table} {rows : List Row} {pool : List ℤ} {stack : List ℕ} (fit
 
   followed : (f : Frame) (k : Check) → check s f ≡ k → answered.ModelWritten (settled s f k).handed model model' →
       listed (unless_refused (writes (framed f)) (settled s f k).answer) model' ≡ following t.vars (settled s f k).handed
-  followed f (Failed e) q h = refl
-  followed (ADD i c) Passed q h = refl
-  followed (LEARN i c hints) Passed q h = refl
-  followed (FORGET i) Passed q h = refl
-  followed (PROMOTE i) Passed q h = refl
-  followed (DROP i hints) Passed q h = refl
-  followed (WEAKEN i w groups) Passed q h = refl
-  followed (RESTORE i) Passed q h = refl
-  followed (SAT assumed vs) Passed q h = ap (λ β. trues β 2048 []) h ∙ trues_within fit assumed vs q
-  followed (UNSAT assumed hints) Passed q h = refl
+  followed f (Err e) q h = refl
+  followed (ADD i c) (Ok tt) q h = refl
+  followed (LEARN i c hints) (Ok tt) q h = refl
+  followed (FORGET i) (Ok tt) q h = refl
+  followed (PROMOTE i) (Ok tt) q h = refl
+  followed (DROP i hints) (Ok tt) q h = refl
+  followed (WEAKEN i w groups) (Ok tt) q h = refl
+  followed (RESTORE i) (Ok tt) q h = refl
+  followed (SAT assumed vs) (Ok tt) q h = ap (λ β. trues β 2048 []) h ∙ trues_within fit assumed vs q
+  followed (UNSAT assumed hints) (Ok tt) q h = refl
 
   follows : (p : Parsed) → answered.ModelWritten (outcome_parsed s p).handed model model' →
       listed (unless_refused (writes p) (outcome_parsed s p).answer) model' ≡ following t.vars (outcome_parsed s p).handed
@@ -54,7 +53,7 @@ module _ {t : Table} {rows : List Row} {pool : List ℤ} {stack : List ℕ} (fit
 module _ (t : Table) (rows : List Row) (pool : List ℤ) (stack : List ℕ) (r : Reader) (frame₁ : List ℤ) where
   -- a line that is no frame
   pub close_spoilt : is_frame r.digits r.spoilt ≡ false → {o : List ℕ} {a : ℕ} {o' : List ℕ} {a' : ℕ} →
-      Wrote o a (answer_line (Refused Malformed) []) o' a' →
+      Wrote o a (answer_line (Err Malformed) []) o' a' →
       LineClosed (spelled t rows pool stack) (line_of r frame₁) o a (spelled t rows pool stack) o' a'
   close_spoilt n w = record { wrote = rw n w; state = rw n refl }
 

@@ -75,7 +75,7 @@ pub fn close(
             altered: step_outcome::altered(written),
         };
     }
-    let a = line_reply::put_answer(out, at, Answer::Refused(Fault::Malformed));
+    let a = line_reply::put_answer(out, at, Err(Fault::Malformed));
     Closed {
         at: a,
         table: t,

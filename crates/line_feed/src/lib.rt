@@ -51,6 +51,7 @@ pub fn feed(
     let mut reader = r;
     let mut table = t;
     let mut altered = false;
+    // Stays a `while`: the step is as many words as come next, and not one.
     while i < part.len() {
         if out.len() - a < 16401 {
             break;

@@ -4,11 +4,15 @@ use mathlib.Core.Logic.{◌⊎◌, inl, inr, ⊎_elim}
 use mathlib.Core.List.{List}
 use Prim.Native.Nat.{ℕ, zero, suc, ◌+◌, ◌*◌, ◌^◌, ◌≤◌, ◌<◌}
 use native.Mathlib.Omega.{arith}
+use native.Mathlib.Numerals.{add-one}
 use native.Mathlib.Decide.{dec_lt}
-use native.Mathlib.Nat.{add-zero, add-suc, add_assoc, pow-suc}
-use lib.ListN.{length, get_or, set}
-use lib.Seq.{get_or-set_same, get_or-set_other}
+use native.Mathlib.Nat.{add-zero, add-suc, add_assoc, pow-suc, pow-le-pow_right}
+use lib.ListN.{length, get_or}
 use lib.Pow.{pow-add}
+use mir.Syntax.{w8}
+use mir.Val.{Fits}
+use Rattle.std.specs.List.{between}
+use Rattle.std.proofs.lemmas.List.Edits.{get_or-between}
 use borrow.Author.Tests.{lt-ltb, le-ltb}
 use Rattle.line_hex.specs.Hex.{beyond, digit, Values, value_at, hex}
 
@@ -68,9 +72,9 @@ unfolding value_at
 value_most l i zero = omega arith
 value_most l i (suc k) = rw (pow-suc 16 k) (omega (arith, value_most l i k, digit_most (get_or l (i + k) 0)))
 
-pub value_two : (l : List ℕ) (i : ℕ) → value_at l i 2 ≡ digit (get_or l i 0) * 16 + digit (get_or l (i + 1) 0)
-unfolding value_at
-value_two l i = rw add-zero (omega arith)
+-- so 64 bits hold one digit more than seven, whatever the bytes are
+pub value_room : (l : List ℕ) (i k : ℕ) → k < 8 → value_at l i k * 16 + beyond < 2 ^ 64
+value_room l i k h = omega (arith, value_most l i k, pow-le-pow_right {n = 16} (omega arith) {i = k} {j = 7} (omega arith))
 
 -- j digits, then k more
 pub value_split : (l : List ℕ) (i j k : ℕ) → value_at l i (j + k) ≡ value_at l i j * 16 ^ k + value_at l (i + j) k
@@ -80,16 +84,13 @@ value_split l i j (suc k) = rw (add-suc j k, add_assoc i j k, value_split l i j 
 
 -- ---- a table of values
 
--- a byte more
-pub values_more : (table : List ℕ) (b : ℕ) {v : ℕ} → b < length table → v ≡ digit b → ((k : ℕ) → k < b → get_or table k 0 ≡ digit k)
-    → (k : ℕ) → k < b + 1 → get_or (set table b v) k 0 ≡ digit k
-values_more table b {v} h e f k m = elim (dec_lt k b) [
-  | yes y ↦ get_or-set_other table b k v 0 (λ q. omega arith) ∙ f k y
-  | no n ↦ let q : k ≡ b = omega arith in rw q (get_or-set_same table b v 0 h ∙ e)
-]
-
-pub looked_up : {table : List ℕ} → Values table → {x b : ℕ} → (x ≡ b) × (x < 256) → get_or table x 0 ≡ digit b
-looked_up v {x} {b} e = v.each x e.1 ∙ ap digit e.0
+-- v is the value of k digits from place i on: the byte behind them is looked up, and there is room for its digit
+pub digit_more : {table : List ℕ} → Values table → (l : List ℕ) (i k v x : ℕ) → k < 8 → v ≡ value_at l i k → Fits w8 (get_or (between i (i + 8) l) k 0)
+    → x ≡ get_or (between i (i + 8) l) k 0 → (v * 16 + get_or table x 0 < 2 ^ 64) × (v * 16 + get_or table x 0 ≡ value_at l i (k + 1))
+unfolding value_at
+digit_more {table} t l i k v x h e f r =
+    let d : get_or table x 0 ≡ digit (get_or l (i + k) 0) = rw r (t.each _ f.fits) ∙ ap digit (get_or-between l i (i + 8) k 0 (omega arith)) in
+    (omega (arith, value_room l i k h, digit_most (get_or l (i + k) 0)), rw add-one (omega arith))
 
 -- ---- writing
 

@@ -28,33 +28,7 @@ pub fn value(b: usize) -> u64
 pub fn values() -> [u64; 256]
     ensures { Values result }
 {
-    let mut table = [0u64; 256];
-    let mut b: usize = 0;
-    while b < 256 {
-        table[b] = value(b);
-        b += 1;
-    }
-    table
-}
-
-pub fn index(b: u8) -> usize
-    ensures { (result ≡ b) × (result < 256) }
-{
-    b as usize
-}
-
-fn two(values: &[u64; 256], part: &[u8], i: usize) -> u64
-    requires { (i + 2 ≤ length part.now) × Values values.now }
-    ensures { result ≡ value_at part.now i 2 }
-{
-    values[index(part[i])] * 16 + values[index(part[i + 1])]
-}
-
-fn four(values: &[u64; 256], part: &[u8], i: usize) -> u64
-    requires { (i + 4 ≤ length part.now) × Values values.now }
-    ensures { result ≡ value_at part.now i 4 }
-{
-    two(values, part, i) * 256 + two(values, part, i + 2)
+    std::array::from_fn(value)
 }
 
 // The value of eight digits; more than any word where one of the bytes is no digit.
@@ -62,10 +36,15 @@ pub fn eight(values: &[u64; 256], part: &[u8], i: usize) -> u64
     requires { (i + 8 ≤ length part.now) × Values values.now }
     ensures { result ≡ value_at part.now i 8 }
 {
-    four(values, part, i) * 65536 + four(values, part, i + 4)
+    let mut v = 0;
+    for &b in &part[i..i + 8] {
+        v = v * 16 + values[usize::from(b)];
+    }
+    v
 }
 
 // Two's complement.
+#[tactic(auto, unfolding(crate::specs::Hex::signed))]
 pub fn signed_of(w: u64) -> i32
     requires { w < 4294967296 }
     ensures { result ≡ signed w }

@@ -5,7 +5,7 @@ use Prim.Native.Nat.{ℕ, zero, suc, ◌+◌, ◌-◌, ◌*◌, ◌/◌, ◌%◌
 use native.Mathlib.Omega.{arith}
 use native.Mathlib.Numerals.{add-one}
 use native.Mathlib.Nat.{pow-suc}
-use lib.ListN.{length, take, drop, set, length-append, length-set, length-take}
+use lib.ListN.{length, take, drop, set, length-append, length-set}
 use lib.Seq.{take-suc-set, drop-set-lt}
 use lib.Pow.{pow-add}
 use Rattle.line_hex.specs.Hex.{glyph, hex}
@@ -15,9 +15,6 @@ use Rattle.text.proofs.Slices.{drop_further}
 
 pub wrote_none : (o : List ℕ) (a : ℕ) → Wrote o a [] o a
 wrote_none o a = record { place = omega arith; bytes = sym (append-nil (take a o)); behind = refl }
-
-pub wrote_one : (o : List ℕ) (a b : ℕ) → a < length o → Wrote o a (b ∷ []) (set o a b) (a + 1)
-wrote_one o a b h = record { place = refl; bytes = rw add-one (take-suc-set o a b h); behind = drop-set-lt (a + 1) o a b (omega arith) }
 
 pub wrote_then : {o xs o₁ ys o₂ : List ℕ} {a a₁ a₂ : ℕ} → Wrote o a xs o₁ a₁ → Wrote o₁ a₁ ys o₂ a₂ → Wrote o a (xs ++ ys) o₂ a₂
 wrote_then {o} {xs} {o₁} {ys} {o₂} {a} {a₁} {a₂} p q = record {
@@ -29,12 +26,6 @@ wrote_then {o} {xs} {o₁} {ys} {o₂} {a} {a₁} {a₂} p q = record {
 pub wrote_as : {o xs ys o₁ : List ℕ} {a a₁ : ℕ} → xs ≡ ys → Wrote o a xs o₁ a₁ → Wrote o a ys o₁ a₁
 wrote_as {o} {xs} {ys} {o₁} {a} {a₁} e w = rw e at w
 
--- what was put from the start of a buffer on lies inside it
-pub wrote_first : {o xs o₁ : List ℕ} {a : ℕ} → Wrote o 0 xs o₁ a → (a ≤ length o₁) × (a ≡ length (take a o₁))
-wrote_first {o} {xs} {o₁} {a} w =
-    let e : a ≡ length (take a o₁) = omega (arith, w.place, ap length w.bytes) in
-    (omega (arith, e, length-take a o₁), e)
-
 -- ---- a number
 
 pub hex_end : {o : List ℕ} {at : ℕ} (k n : ℕ) {o' : List ℕ} {a : ℕ} → Wrote o at (hex k n) o' a → a ≡ at + k
@@ -45,32 +36,34 @@ sixteens zero = refl
 sixteens (suc k) = let e : 4 * suc k ≡ 4 * k + 4 = omega arith in rw (e, pow-add 2 (4 * k) 4, pow-suc 16 k, sixteens k) (omega arith)
 
 -- k digits are still to come
-pub record Digiting (o : List ℕ) (at n : ℕ) (o' : List ℕ) (a k : ℕ) : Type 0 where
+pub record Digiting (o : List ℕ) (at n : ℕ) (o' : List ℕ) (k : ℕ) : Type 0 where
   pub few : k ≤ 8
-  pub place : a + k ≡ at + 8
   pub size : length o' ≡ length o
-  pub rest : take a o' ++ hex k n ≡ take at o ++ hex 8 n
-  pub behind : drop a o' ≡ drop a o
+  pub rest : take (at + 8 - k) o' ++ hex k n ≡ take at o ++ hex 8 n
+  pub behind : drop (at + 8 - k) o' ≡ drop (at + 8 - k) o
 
-pub digiting_more : (k : ℕ) {o : List ℕ} {at n : ℕ} {o' : List ℕ} {a : ℕ} → Digiting o at n o' a k → a < length o' → 0 < k
-    → Digiting o at n (set o' a (glyph (n / 2 ^ (4 * (k - 1)) % 16))) (a + 1) (k - 1)
+pub digiting_more : (k : ℕ) {o : List ℕ} {at n : ℕ} {o' : List ℕ} → Digiting o at n o' k → at + 8 ≤ length o → 0 < k
+    → Digiting o at n (set o' (at + 7 - (k - 1)) (glyph (n / 2 ^ (4 * (k - 1)) % 16))) (k - 1)
 unfolding hex
 digiting_more zero d h p = absurd (omega arith)
-digiting_more (suc k) {o} {at} {n} {o'} {a} d h p =
+digiting_more (suc k) {o} {at} {n} {o'} d h p =
     let e : suc k - 1 ≡ k = omega arith in
+    let a = at + 8 - suc k in
+    let here : at + 7 - k ≡ a = omega arith in
+    let next : at + 8 - k ≡ a + 1 = omega (arith, d.few) in
+    let inside : a < length o' = omega (arith, d.few, d.size) in
     let g = glyph (n / 16 ^ k % 16) in
-    rw (e, sixteens k) record {
+    rw (e, sixteens k, here) record {
       few = omega (arith, d.few);
-      place = omega (arith, d.place);
       size = length-set o' a g ∙ d.size;
-      rest = rw (add-one, take-suc-set o' a g h, append_assoc (take a o') (g ∷ []) (hex k n)) d.rest;
-      behind = drop-set-lt (a + 1) o' a g (omega arith) ∙ drop_further a (a + 1) o' o (omega arith) d.behind;
+      rest = rw (next, add-one, take-suc-set o' a g inside, append_assoc (take a o') (g ∷ []) (hex k n)) d.rest;
+      behind = rw next (drop-set-lt (a + 1) o' a g (omega arith) ∙ drop_further a (a + 1) o' o (omega arith) d.behind);
     }
 
-pub digiting_end : {o : List ℕ} {at n : ℕ} {o' : List ℕ} {a k : ℕ} → Digiting o at n o' a k → k ≡ 0 → Wrote o at (hex 8 n) o' a
+pub digiting_end : {o : List ℕ} {at n : ℕ} {o' : List ℕ} {k : ℕ} → Digiting o at n o' k → k ≡ 0 → Wrote o at (hex 8 n) o' (at + 8)
 unfolding hex
-digiting_end {o} {at} {n} {o'} {a} {k} d e = record {
-  place = omega (arith, d.place, hex_length 8 n);
-  bytes = let r = d.rest in sym (append-nil (take a o')) ∙ rw e at r;
-  behind = d.behind;
-}
+digiting_end {o} {at} {n} {o'} {k} d e =
+    let last : at + 8 - k ≡ at + 8 = omega arith in
+    let r = d.rest in
+    let b = d.behind in
+    record { place = omega (arith, hex_length 8 n); bytes = sym (append-nil (take (at + 8) o')) ∙ rw (last, e) at r; behind = rw last at b }

@@ -14,6 +14,7 @@ pub fn put(out: &mut [u8], at: usize, b: u8) -> usize
     at + 1
 }
 
+#[tactic(auto, unfolding(line_hex::specs::Hex::glyph))]
 fn glyph_of(d: usize) -> u8
     requires { d < 16 }
     ensures { result ≡ glyph d }
@@ -29,12 +30,8 @@ pub fn put_number(out: &mut [u8], at: usize, n: usize) -> usize
     requires { at + 8 ≤ length out.old }
     ensures { Wrote out.old at (hex 8 n) out.new result }
 {
-    let mut a = at;
-    let mut k: usize = 8;
-    while 0 < k {
-        k -= 1;
-        out[a] = glyph_of((n >> (4 * k)) % 16);
-        a += 1;
+    for k in (0..8).rev() {
+        out[at + 7 - k] = glyph_of((n >> (4 * k)) % 16);
     }
-    a
+    at + 8
 }

@@ -53,7 +53,7 @@ pushed : (l : Line) (b : ℕ) {s t : Bool} → l.spoilt ≡ s → takes l.digits
 unfolding push
 pushed l b e f = ap₂ (λ (s t : Bool). cond s l (cond t (grow (eqb (l.digits % 8) 7) l (digit b)) (spoil l))) e f
 
-reads_spoilt : (bs : List ℕ) (l : Line) → l.spoilt ≡ true → reads l bs ≡ l
+pub reads_spoilt : (bs : List ℕ) (l : Line) → l.spoilt ≡ true → reads l bs ≡ l
 unfolding reads
 reads_spoilt [] l e = refl
 reads_spoilt (b ∷ bs) l e = rw (pushed l b e refl) (reads_spoilt bs l e)
@@ -107,25 +107,28 @@ reading (b ∷ bs) l e h = by_cases (takes l.digits b)
 
 -- ---- one byte
 
-module _ (l : Line) (b : ℕ) where
-  pub push_spoilt : l.spoilt ≡ true → l ≡ push l b
-  push_spoilt e = sym (pushed l b e refl)
+pub push_spoilt : (l : Line) (b : ℕ) → l.spoilt ≡ true → l ≡ push l b
+push_spoilt l b e = sym (pushed l b e refl)
 
-  pub push_spoils : l.spoilt ≡ false → (16 ≤ digit b) ⊎ (l.digits ≡ 32768) → spoil l ≡ push l b
-  push_spoils e f =
-      let t : takes l.digits b ≡ false = ⊎_elim (λ h. rw (le-ltb (digit b) 16 h))
+module _ (l : Line) (b : ℕ) {v : ℕ} (d : v ≡ digit b) (e : l.spoilt ≡ false) where
+  pub push_spoils : (16 ≤ v) ⊎ (l.digits ≡ 32768) → spoil l ≡ push l b
+  push_spoils f =
+      let t : takes l.digits b ≡ false = ⊎_elim (λ h. rw (le-ltb (digit b) 16 (omega arith)))
       (λ h. rw (le-ltb l.digits 32768 (omega arith)) (and-false (is_digit b))) f in
       sym (pushed l b e t)
 
-  module _ (e : l.spoilt ≡ false) (v : digit b < 16) (few : l.digits < 32768) where
-    taken : push l b ≡ grow (eqb (l.digits % 8) 7) l (digit b)
-    taken = pushed l b e (and_both (lt-ltb (digit b) 16 v) (lt-ltb l.digits 32768 few))
+  module _ (small : v < 16) (few : l.digits < 32768) where
+    taken : push l b ≡ grow (eqb (l.digits % 8) 7) l v
+    taken = rw d (pushed l b e (and_both (lt-ltb (digit b) 16 (omega arith)) (lt-ltb l.digits 32768 few)))
 
-    pub push_digit : (l.digits % 8 ≡ 7 → ⊥) → reached (l.digits + 1) (roll l.word (digit b)) l.words ≡ push l b
-    push_digit n = sym (taken ∙ rw (ne_eqb (l.digits % 8) 7 n))
+    pub push_digit : (l.digits % 8 ≡ 7 → ⊥) → record { digits = l.digits + 1; word = roll l.word v; spoilt = l.spoilt; words = l.words } ≡ push l b
+    push_digit n =
+        ap (λ s. record { digits = l.digits + 1; word = roll l.word v; spoilt = s; words = l.words }) e ∙ sym (taken ∙ rw (ne_eqb (l.digits % 8) 7 n))
 
-    pub push_eighth : l.digits % 8 ≡ 7 → reached (l.digits + 1) 0 (l.words ++ (signed (roll l.word (digit b)) ∷ [])) ≡ push l b
-    push_eighth n = sym (taken ∙ rw (eq-eqb (l.digits % 8) 7 n))
+    pub push_eighth : l.digits % 8 ≡ 7 → record { digits = l.digits + 1; word = 0; spoilt = l.spoilt; words = l.words ++ (signed (roll l.word v) ∷ []) } ≡ push l b
+    push_eighth n =
+        ap (λ s. record { digits = l.digits + 1; word = 0; spoilt = s; words = l.words ++ (signed (roll l.word v) ∷ []) }) e
+        ∙ sym (taken ∙ rw (eq-eqb (l.digits % 8) 7 n))
 
 -- ---- eight digits are a word
 
@@ -156,7 +159,7 @@ module _ (l : List ℕ) (i k : ℕ) (ws : List ℤ) (inside : i + 8 ≤ length l
         reads_snoc (reached (8 * k) 0 ws) (slice i (i + j) l) (get_or l (i + j) 0),
         part_read j (omega arith),
       )
-      (sym (push_digit (reached (8 * k + j) (value_at l i j) ws) (get_or l (i + j) 0) refl (ds j (omega arith)) (omega arith) (λ e. omega arith))
+      (sym (push_digit (reached (8 * k + j) (value_at l i j) ws) (get_or l (i + j) 0) refl refl (ds j (omega arith)) (omega arith) (λ e. omega arith))
       ∙ ap (λ w. reached (8 * k + j + 1) w ws) (rolled j (omega arith)))
 
   pub word_read : reads (reached (8 * k) 0 ws) (slice i (i + 8) l) ≡ reached (8 * k + 8) 0 (ws ++ (signed (value_at l i 8) ∷ []))
@@ -170,7 +173,7 @@ module _ (l : List ℕ) (i k : ℕ) (ws : List ℤ) (inside : i + 8 ≤ length l
         reads_snoc (reached (8 * k) 0 ws) (slice i (i + 7) l) (get_or l (i + 7) 0),
         part_read 7 (omega arith),
       )
-      (sym (push_eighth (reached (8 * k + 7) (value_at l i 7) ws) (get_or l (i + 7) 0) refl (ds 7 (omega arith)) (omega arith) (omega arith))
+      (sym (push_eighth (reached (8 * k + 7) (value_at l i 7) ws) (get_or l (i + 7) 0) refl refl (ds 7 (omega arith)) (omega arith) (omega arith))
       ∙ ap (λ w. reached (8 * k + 7 + 1) 0 (ws ++ (signed w ∷ []))) (rolled 7 (omega arith)))
 
 -- ---- so the machine says of a line what its bytes say

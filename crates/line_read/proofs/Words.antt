@@ -1,22 +1,21 @@
 -- The loop that takes whole words: what holds at its head, and each way on.
 use mathlib.Core.Path.{◌≡◌, refl, sym, ap, ◌∙◌}
-use mathlib.Core.Bool.{Bool, true, false, cond, ◌&&◌}
-use mathlib.Core.List.{List, [], ◌∷◌}
-use Prim.Native.Nat.{ℕ, suc, ◌+◌, ◌*◌, ◌/◌, ◌%◌, ◌≤◌, ◌<◌}
+use mathlib.Core.Bool.{Bool, true, false}
+use mathlib.Core.List.{List}
+use Prim.Native.Nat.{ℕ, suc, ◌+◌, ◌*◌, ◌/◌, ◌%◌, ◌-◌, ◌≤◌, ◌<◌}
 use native.Mathlib.Omega.{arith}
 use lib.IntN.{ℤ}
-use lib.Dec.{eqb, ltb}
 use lib.ListN.{length, take, set, length-set}
 use lib.Seq.{slice, slice_empty, take-suc-set}
 use Rattle.rules.specs.Lists.{all_pass}
 use Rattle.rules.proofs.Lists.{all_nil, all_append}
-use Rattle.line_hex.specs.Hex.{beyond, value_at, signed, digit, is_digit}
+use Rattle.line_hex.specs.Hex.{beyond, value_at, signed}
 use Rattle.line_hex.proofs.Digits.{value_digits}
-use Rattle.line_read.specs.Machine.{Line, grow, spoil, push, reads}
+use Rattle.line_read.specs.Machine.{Line, reads}
 use Rattle.line_read.specs.Lent.{Took}
 use Rattle.text.specs.Places.{goes_on, Unclosed}
 use Rattle.text.proofs.Slices.{slice_join}
-use Rattle.line_read.proofs.Reading.{reached, reads_append, digits_all, word_read}
+use Rattle.line_read.proofs.Reading.{reached, reads_append, reads_spoilt, digits_all, word_read}
 use Rattle.line_read.proofs.Parts.{digits_go_on}
 
 -- the line of k whole words in the frame buffer
@@ -28,6 +27,7 @@ pub record Words (part : List ℕ) (from d : ℕ) (frame₀ frame : List ℤ) (k
   pub low : from ≤ i
   pub high : i ≤ length part
   pub few : k ≤ 4096
+  pub whole : 8 * k ≡ d + (i - from)
   pub kept : length frame ≡ length frame₀
   pub unclosed : all_pass goes_on (slice from i part) ≡ true
   pub read : words_in (8 * k) frame ≡ reads (words_in d frame₀) (slice from i part)
@@ -40,6 +40,7 @@ words_start part from d frame h m e =
       low = omega arith;
       high = h;
       few = omega arith;
+      whole = omega arith;
       kept = refl;
       unclosed = rw (slice_empty from part) (all_nil goes_on);
       read = rw (slice_empty from part, whole);
@@ -63,14 +64,17 @@ words_more {part} {from} {d} {frame₀} {frame} {k} {i} w h n v m =
       low = omega (arith, w.low);
       high = n;
       few = omega arith;
+      whole = omega (arith, w.whole, w.low);
       kept = length-set frame k x ∙ w.kept;
       unclosed = rw (← join) (all_append goes_on (slice from i part) eight w.unclosed (digits_go_on eight (digits_all part i 8 n ds)));
       read = more ∙ ap (λ l. reads l eight) w.read ∙ sym (reads_append (words_in d frame₀) (slice from i part) eight) ∙ ap (reads (words_in d frame₀)) join;
     }
 
 pub took : {part : List ℕ} {from d : ℕ} {frame₀ frame : List ℤ} {k i : ℕ} → Words part from d frame₀ frame k i → (w : ℕ) (s : Bool) → w ≡ 0 → s ≡ false
-    → Took part from i (record { digits = d; word = w; spoilt = s; words = take (d / 8) frame₀ }) (words_in (8 * k) frame)
-took h w s e f = record { low = h.low; high = h.high; most = omega (arith, h.few); unclosed = h.unclosed; read = rw (e, f) h.read }
+    → Took part from i (record { digits = d; word = w; spoilt = s; words = take (d / 8) frame₀ })
+    (record { digits = d + (i - from); word = w; spoilt = s; words = take ((d + (i - from)) / 8) frame })
+took h w s e f = let n = h.whole in
+    record { low = h.low; high = h.high; most = omega (arith, n, h.few); unclosed = h.unclosed; read = rw (e, f, ← n) h.read }
 
 pub took_none : (part : List ℕ) (from : ℕ) (l : Line) → from ≤ length part → l.digits ≤ 32768 → Took part from from l l
 unfolding reads
@@ -80,13 +84,6 @@ took_none part from l h m =
 -- ---- a spoilt line
 
 -- no byte mends it
-spoilt_stays : (bs : List ℕ) (l : Line) → l.spoilt ≡ true → reads l bs ≡ l
-unfolding reads push
-spoilt_stays [] l e = refl
-spoilt_stays (b ∷ bs) l e =
-    let same : push l b ≡ l = ap (λ (s : Bool). cond s l (cond (is_digit b && ltb l.digits 32768) (grow (eqb (l.digits % 8) 7) l (digit b)) (spoil l))) e in
-    ap (λ (x : Line). reads x bs) same ∙ spoilt_stays bs l e
-
 pub took_spoilt : {part : List ℕ} {from i : ℕ} (l : Line) → Unclosed part from i → l.digits ≤ 32768 → l.spoilt ≡ true → Took part from i l l
 took_spoilt {part} {from} {i} l u m e =
-    record { low = u.low; high = u.high; most = m; unclosed = u.goes; read = sym (spoilt_stays (slice from i part) l e) }
+    record { low = u.low; high = u.high; most = m; unclosed = u.goes; read = sym (reads_spoilt (slice from i part) l e) }

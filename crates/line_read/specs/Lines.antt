@@ -6,8 +6,8 @@ use Rattle.rules.specs.Terms.{State}
 use Rattle.rules.specs.Frames.{malformed}
 use Rattle.rules.specs.Answers.{numbers, Handed, untouched, mended, Outcome, outcome, outcome_parsed, opened}
 use Rattle.rules.specs.Outcomes.{trues}
-use Rattle.rules.specs.declared.Answer.{Answer}
-use Rattle.rules.specs.declared.Answer.TheVariants.{Refused}
+use Rattle.rules.specs.Results.{Answer}
+use Rattle.std.specs.Prelude.{Err}
 use Rattle.rules.specs.declared.Fault.TheVariants.{Malformed}
 use Rattle.line_hex.specs.Hex.{is_digit, value_at, signed, hex}
 
@@ -66,7 +66,7 @@ replies s [] = []
 replies s (l ∷ ls) = let o = line_outcome s (frame_of l) in reply s.vars o ++ replies o.state ls
 
 abbrev pub refusal : List ℕ
-refusal = answer_line (Refused Malformed) []
+refusal = answer_line (Err Malformed) []
 
 -- a line "unclosed at the end, is refused 2"
 abbrev pub ending : List ℕ → List ℕ

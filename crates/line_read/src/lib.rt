@@ -38,33 +38,27 @@ pub fn push_byte(r: Reader, frame: &mut [i32], b: u8) -> Reader
     ensures moved { line_of result frame.new ≡ push (line_of r frame.old) b }
 {
     let digits = r.digits;
-    let word = r.word;
     if r.spoilt {
         return r;
     }
-    let v = line_hex::value(line_hex::index(b));
+    let v = line_hex::value(usize::from(b));
     if 15 < v || digits == 32768 {
-        return Reader {
-            digits,
-            word,
-            spoilt: true,
-        };
+        return Reader { spoilt: true, ..r };
     }
-    let w = word % 268435456 * 16 + v;
+    let w = r.word % 268435456 * 16 + v;
     if digits % 8 == 7 {
         let k = digits / 8;
-        let x = line_hex::signed_of(w);
-        frame[k] = x;
+        frame[k] = line_hex::signed_of(w);
         return Reader {
             digits: digits + 1,
             word: 0,
-            spoilt: false,
+            ..r
         };
     }
     Reader {
         digits: digits + 1,
         word: w,
-        spoilt: false,
+        ..r
     }
 }
 
@@ -95,9 +89,8 @@ pub fn take_words(
     if r.word != 0 || digits % 8 != 0 {
         return Taken { from, reader: r };
     }
-    let mut k = digits / 8;
     let mut i = from;
-    while k < 4096 {
+    for k in digits / 8..4096 {
         if part.len() - i < 8 {
             break;
         }
@@ -105,17 +98,14 @@ pub fn take_words(
         if 4294967295 < w {
             break;
         }
-        let x = line_hex::signed_of(w);
-        frame[k] = x;
-        k += 1;
+        frame[k] = line_hex::signed_of(w);
         i += 8;
     }
     Taken {
         from: i,
         reader: Reader {
-            digits: 8 * k,
-            word: 0,
-            spoilt: false,
+            digits: digits + (i - from),
+            ..r
         },
     }
 }

@@ -50,19 +50,23 @@ module _ (α : Assignment) where
       rw (add-suc n k)
       (ap (λ b. trues α (n + k) (cond b (suc (n + k) ∷ []) [])) (f (suc (n + k)) (omega arith) (omega arith)) ∙ trues_past n k (λ v h m. f v h (omega arith)))
 
--- variable i + 1 as the code reads it
-bit_read : (ws : List ℕ) (i : ℕ) → assigned ws (i + 1) ≡ eqb (get_or ws (i / 64) 0 / 2 ^ (i % 64) % 2) 1
+-- bit b of word k as the code reads it
+bit_read : (ws : List ℕ) (k b : ℕ) → b < 64 → assigned ws (64 * k + b + 1) ≡ eqb (get_or ws k 0 / 2 ^ b % 2) 1
 unfolding assigned bit
-bit_read ws i = rw add-one
+bit_read ws k b h =
+    let q : (64 * k + b) / 64 ≡ k = omega arith in
+    let r : (64 * k + b) % 64 ≡ b = omega arith in
+    rw (add-one, q, r)
 
 -- where no bit is left of a word, none of its other variables is true
-word_past : (ws : List ℕ) (i : ℕ) → get_or ws (i / 64) 0 / 2 ^ (i % 64) ≡ 0 → (v : ℕ) → i < v → v ≤ 64 * (i / 64) + 64 → assigned ws v ≡ false
+word_past : (ws : List ℕ) (k b : ℕ) → get_or ws k 0 / 2 ^ b ≡ 0 → (v : ℕ) → 64 * k + b < v → v ≤ 64 * k + 64 → assigned ws v ≡ false
 unfolding assigned bit
-word_past ws i e zero h m = absurd (omega arith)
-word_past ws i e (suc n) h m =
-    let q : n / 64 ≡ i / 64 = omega arith in
-    let r : n % 64 ≡ i % 64 + (n - i) = omega arith in
-    rw (q, r, ← shr-shr (get_or ws (i / 64) 0) (i % 64) (n - i), e) (bit_none (n - i))
+word_past ws k b e zero h m = absurd (omega arith)
+word_past ws k b e (suc n) h m =
+    let rest = n - (64 * k + b) in
+    let q : n / 64 ≡ k = omega arith in
+    let r : n % 64 ≡ b + rest = omega arith in
+    rw (q, r, ← shr-shr (get_or ws k 0) b rest, e) (bit_none rest)
 
 -- ---- the loop over the variables
 
@@ -80,26 +84,30 @@ spelling_start o at ws = record { few = omega arith; size = refl; wrote = wrote_
 pub model_room : {o : List ℕ} {at : ℕ} (α : Assignment) (n : ℕ) {o' : List ℕ} {a : ℕ} → Wrote o at (in_hex (trues α n [])) o' a → a ≤ at + 8 * n
 model_room α n w = omega (arith, w.place, spelled_length (trues α n []), trues_few α n [])
 
-module _ {o : List ℕ} {at : ℕ} {ws o' : List ℕ} {a i : ℕ} (w : Spelling o at ws o' a i) (h : i < 2048) where
-  pub spelling_room : a + 8 ≤ at + 16384
-  spelling_room = omega (arith, model_room (assigned ws) i w.wrote)
+-- of word k those before bit b are written, and bit b is looked at
+module _ {o : List ℕ} {at : ℕ} {ws o' : List ℕ} {a : ℕ} (k b : ℕ) (w : Spelling o at ws o' a (64 * k + b)) (h : k < 32) (m : b < 64) where
+  next : 64 * k + (b + 1) ≡ 64 * k + b + 1
+  next = omega arith
 
-  pub spelling_true : {o₂ : List ℕ} {a₂ : ℕ} → get_or ws (i / 64) 0 / 2 ^ (i % 64) % 2 ≡ 1 → length o₂ ≡ length o' → Wrote o' a (hex 8 (i + 1)) o₂ a₂
-      → Spelling o at ws o₂ a₂ (i + 1)
-  spelling_true e k p = record {
+  pub spelling_room : a + 8 ≤ at + 16384
+  spelling_room = omega (arith, model_room (assigned ws) (64 * k + b) w.wrote)
+
+  pub spelling_true : {o₂ : List ℕ} {a₂ : ℕ} → get_or ws k 0 / 2 ^ b % 2 ≡ 1 → length o₂ ≡ length o' → Wrote o' a (hex 8 (64 * k + b + 1)) o₂ a₂
+      → Spelling o at ws o₂ a₂ (64 * k + (b + 1))
+  spelling_true e l p = rw next record {
     few = omega arith;
-    size = k ∙ w.size;
-    wrote = wrote_as (sym (trues_more (assigned ws) i (bit_read ws i ∙ eq-eqb _ 1 e))) (wrote_then w.wrote p);
+    size = l ∙ w.size;
+    wrote = wrote_as (sym (trues_more (assigned ws) (64 * k + b) (bit_read ws k b m ∙ eq-eqb _ 1 e))) (wrote_then w.wrote p);
   }
 
-  -- k variables that are false
-  past : (k : ℕ) → i + k ≤ 2048 → ((v : ℕ) → i < v → v ≤ i + k → assigned ws v ≡ false) → Spelling o at ws o' a (i + k)
-  past k m f = record { few = m; size = w.size; wrote = wrote_as (ap in_hex (sym (trues_past (assigned ws) i k f))) w.wrote }
+  -- n variables that are false
+  past : (n : ℕ) → b + n ≤ 64 → ((v : ℕ) → 64 * k + b < v → v ≤ 64 * k + b + n → assigned ws v ≡ false) → Spelling o at ws o' a (64 * k + b + n)
+  past n l f = record { few = omega arith; size = w.size; wrote = wrote_as (ap in_hex (sym (trues_past (assigned ws) (64 * k + b) n f))) w.wrote }
 
-  pub spelling_false : (get_or ws (i / 64) 0 / 2 ^ (i % 64) % 2 ≡ 1 → ⊥) → Spelling o at ws o' a (i + 1)
-  spelling_false n = past 1 (omega arith) (λ v l m. let e : v ≡ i + 1 = omega arith in rw e (bit_read ws i ∙ ne_eqb _ 1 n))
+  pub spelling_false : (get_or ws k 0 / 2 ^ b % 2 ≡ 1 → ⊥) → Spelling o at ws o' a (64 * k + (b + 1))
+  spelling_false n = rw next (past 1 (omega arith) (λ v l u. let e : v ≡ 64 * k + b + 1 = omega arith in rw e (bit_read ws k b m ∙ ne_eqb _ 1 n)))
 
-  pub spelling_past : get_or ws (i / 64) 0 / 2 ^ (i % 64) ≡ 0 → Spelling o at ws o' a (64 * (i / 64) + 64)
+  pub spelling_past : get_or ws k 0 / 2 ^ b ≡ 0 → Spelling o at ws o' a (64 * (k + 1))
   spelling_past e =
-      let k : i + (64 * (i / 64) + 64 - i) ≡ 64 * (i / 64) + 64 = omega arith in
-      rw k at (past (64 * (i / 64) + 64 - i) (omega arith) (λ v l m. word_past ws i e v l (omega arith)))
+      let n : 64 * (k + 1) ≡ 64 * k + b + (64 - b) = omega arith in
+      rw n (past (64 - b) (omega arith) (λ v l u. word_past ws k b e v l (omega arith)))

@@ -17,16 +17,15 @@ fn put_model(out: &mut [u8], at: usize, model: &[u64; 32]) -> usize
     ensures { Wrote out.old at (in_hex (trues (assigned model.now) 2048 [])) out.new result }
 {
     let mut a = at;
-    let mut i: usize = 0;
-    while i < 2048 {
-        let w = model[i / 64] >> (i % 64);
-        if w == 0 {
-            i = 64 * (i / 64) + 64;
-            continue;
-        }
-        i += 1;
-        if w % 2 == 1 {
-            a = line_put::put_number(out, a, i);
+    for (k, &word) in model.iter().enumerate() {
+        for b in 0..64 {
+            let w = word >> b;
+            if w == 0 {
+                break;
+            }
+            if w % 2 == 1 {
+                a = line_put::put_number(out, a, 64 * k + b + 1);
+            }
         }
     }
     a
@@ -65,7 +64,7 @@ pub fn finish(r: Reader, out: &mut [u8], at: usize) -> usize
     ensures { Wrote out.old at (end_reply r.digits r.spoilt) out.new result }
 {
     if r.spoilt || r.digits != 0 {
-        return put_answer(out, at, Answer::Refused(Fault::Malformed));
+        return put_answer(out, at, Err(Fault::Malformed));
     }
     at
 }

@@ -1,21 +1,17 @@
 -- Laws of signed words. A local holds the bits of a number: they read back as the number.
-use mathlib.Core.Path.{◌≡◌, refl, sym, ◌∙◌, ap}
-use mathlib.Core.Bool.{true, false, true≢false, false≢true}
+use mathlib.Core.Path.{◌≡◌, ◌∙◌, ap}
+use mathlib.Core.Bool.{true, false≢true}
 use mathlib.Core.List.{List}
-use Prim.Native.Nat.{ℕ, zero, suc, ◌-◌, ◌^◌, ◌≤◌, ◌<◌}
+use Prim.Native.Nat.{ℕ, zero, suc, ◌≤◌}
 use native.Mathlib.Omega.{arith}
-use lib.IntN.{ℤ, pos, negsuc, nat_abs, neg_ℤ, ◌-ℤ◌, +ℤ_idl}
-use lib.Signed.{mag, lt_z, le_z, non_neg}
-use lib.Dec.{T, leb, ltb}
-use mir.Syntax.{Width, w32}
-use mir.Val.{SFits, Fits, bits, to_z, of_z}
+use lib.IntN.{ℤ, pos, negsuc, nat_abs, neg_ℤ}
+use mir.Syntax.{w32}
+use mir.Val.{SFits, to_z, of_z}
 use mir.Facts.{to_z-of_z}
-use borrow.Author.Rules.{Fits-under}
-use borrow.Author.Tests.{ltb-true, ltb-false, lt-ltb, le-ltb, le-leb}
+use borrow.Author.Tests.{ltb-true, lt-ltb}
 use Rattle.rules.specs.Lists.{all_pass}
 use Rattle.rules.specs.Terms.{in_range}
-use Rattle.rules.proofs.Lists.{by_cases, all_at, all_of}
-use Rattle.lit.specs.Signs.{is_natural}
+use Rattle.rules.proofs.Lists.{all_at, all_of}
 
 -- what the bits of x read back as
 abbrev pub back : ℤ → ℤ
@@ -43,56 +39,12 @@ opposite_in vars (pos zero) h = h
 opposite_in vars (pos (suc n)) h = h
 opposite_in vars (negsuc n) h = h
 
--- ---- the sign
-
-pub sign : (x : ℤ) → le_z (pos 0) x ≡ is_natural x
-sign (pos n) = le-leb 0 n (omega arith)
-sign (negsuc n) = refl
-
-pub not_negative : (x : ℤ) → le_z (pos 0) x ≡ true → pos (nat_abs x) ≡ x
-not_negative (pos n) e = refl
-not_negative (negsuc n) e = absurd (false≢true e)
-
-pub negative : (x : ℤ) → le_z (pos 0) x ≡ false → (n : ℕ) × (x ≡ negsuc n)
-negative (pos n) e = absurd (true≢false (sym (sign (pos n)) ∙ e))
-negative (negsuc n) e = (n, refl)
-
--- a word that is not negative is an unsigned number, of 31 bits
-module _ (x : ℤ) (f : SFits w32 x) (e : le_z (pos 0) (back x) ≡ true) where
-  pub unsigned : T (non_neg (back x)) × (nat_abs (back x) ≤ 2147483647)
-  unsigned =
-      let b = to_z-of_z f in
-      let q = not_negative x (rw b at e) in
-      rw b (rw (← q) tt, omega (arith, ap mag q, f.sfits))
-
-  pub unsigned_fits : (w : Width) → T (leb 2147483648 (2 ^ bits w)) → T (non_neg (back x)) × Fits w (nat_abs (back x))
-  unsigned_fits w t = (unsigned.0, Fits-under w (nat_abs (back x)) 2147483648 (omega (arith, unsigned.1)) t)
-
 -- ---- negation
 
 neg_fits : (x : ℤ) → nat_abs x ≤ 2048 → SFits w32 (neg_ℤ x)
 neg_fits (pos zero) h = record { sfits = omega arith }
 neg_fits (pos (suc n)) h = record { sfits = omega arith }
 neg_fits (negsuc n) h = record { sfits = omega arith }
-
-pub natAbs_neg : (x : ℤ) → nat_abs (neg_ℤ x) ≡ nat_abs x
-natAbs_neg (pos zero) = refl
-natAbs_neg (pos (suc n)) = refl
-natAbs_neg (negsuc n) = refl
-
--- a small number may be negated; the bits then read back as the opposite
-module _ (x : ℤ) (f : SFits w32 x) (h : nat_abs x ≤ 2048) where
-  pub minus_fits : SFits w32 (pos 0 -ℤ back x)
-  minus_fits = rw (to_z-of_z f, +ℤ_idl) (neg_fits x h)
-
-  pub minus_is : back (pos 0 -ℤ back x) ≡ neg_ℤ x
-  minus_is = to_z-of_z minus_fits ∙ rw (to_z-of_z f, +ℤ_idl)
-
-  pub minus_positive : le_z (pos 0) (back x) ≡ false → T (non_neg (back (pos 0 -ℤ back x))) × (nat_abs (back (pos 0 -ℤ back x)) ≤ 2048)
-  minus_positive e =
-      let b = to_z-of_z f in
-      let q = (negative x (rw b at e)).1 in
-      rw minus_is (rw q tt, rw natAbs_neg h)
 
 -- ---- a word in a local
 
@@ -107,45 +59,6 @@ variable_bounds {l} f h e = rw (e, to_z-of_z f) (sized l h)
 pub said : {A : Type 0} (P : ℤ → A) {l : ℤ} {r : A} → SFits w32 l → r ≡ P (back l) → r ≡ P l
 said P f e = e ∙ ap P (to_z-of_z f)
 
--- a word is 0 where its bits are
-pub zero_bits : (n : ℕ) → to_z w32 n ≡ pos 0 → n ≡ 0
-zero_bits n e = by_cases (ltb n 2147483648)
-    (λ t. let q : pos n ≡ pos 0 = rw t at e in cc)
-    (λ f. let q : negsuc (4294967296 - suc n) ≡ pos 0 = rw f at e in cc)
-
-pub bits_zero : (n : ℕ) → n ≡ 0 → to_z w32 n ≡ pos 0
-bits_zero n e = rw e
-
 -- what `opposite` handed back
 pub opposite_back : (l r : ℤ) → in_range 2048 l ≡ true → r ≡ neg_ℤ l → back r ≡ neg_ℤ l
 opposite_back l r h e = rw e (to_z-of_z (neg_fits l (sized l h).1))
-
--- ---- the range by the variable
-
--- the tests against -2,048 and 2,048
-pub below : (x : ℤ) → lt_z x (negsuc 2047) ≡ true → 2048 < nat_abs x
-below (pos n) e = absurd (false≢true e)
-below (negsuc n) e = omega (arith, ltb-true 2047 n e)
-
-pub above : (x : ℤ) → lt_z (pos 2048) x ≡ true → 2048 < nat_abs x
-above (pos n) e = omega (arith, ltb-true 2048 n e)
-above (negsuc n) e = absurd (false≢true e)
-
-pub between : (x : ℤ) → lt_z x (negsuc 2047) ≡ false → lt_z (pos 2048) x ≡ false → nat_abs x ≤ 2048
-between (pos n) a b = omega (arith, ltb-false 2048 n b)
-between (negsuc n) a b = omega (arith, ltb-false 2047 n a)
-
-pub out_past : (vars : ℕ) (x : ℤ) → vars < nat_abs x → false ≡ in_range vars x
-out_past vars (pos zero) h = refl
-out_past vars (pos (suc n)) h = sym (le-ltb n vars (omega arith))
-out_past vars (negsuc n) h = sym (le-ltb n vars (omega arith))
-
-pub in_by_variable : (vars : ℕ) (x : ℤ) → (nat_abs x ≡ 0 → ⊥) → leb (nat_abs x) vars ≡ in_range vars x
-in_by_variable vars (pos zero) h = absurd (h refl)
-in_by_variable vars (pos (suc n)) h = refl
-in_by_variable vars (negsuc n) h = refl
-
-pub out_zero : (vars : ℕ) (x : ℤ) → nat_abs x ≡ 0 → false ≡ in_range vars x
-out_zero vars (pos zero) h = refl
-out_zero vars (pos (suc n)) h = absurd (omega arith)
-out_zero vars (negsuc n) h = absurd (omega arith)

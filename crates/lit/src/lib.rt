@@ -34,7 +34,7 @@ pub fn variable(l: i32) -> usize
     requires { nat_abs l ≤ 2048 }
     ensures { result ≡ nat_abs l }
 {
-    if 0 <= l { l as usize } else { (-l) as usize }
+    l.unsigned_abs() as usize
 }
 
 // Past 2,048 on either side comes first: no word is negated before that.
@@ -59,12 +59,12 @@ pub fn in_range(vars: usize, l: i32) -> bool
 pub fn number(x: i32) -> usize
     ensures { (result ≡ paper.number x) × (result ≤ 2147483647) }
 {
-    if 0 <= x { x as usize } else { 0 }
+    usize::try_from(x).unwrap_or(0)
 }
 
 // The word names the clause of this id.
 pub fn names(x: i32, id: u32) -> bool
     ensures { result ≡ same x (pos id) }
 {
-    if 0 <= x { x as u32 == id } else { false }
+    u32::try_from(x).is_ok_and(|named| named == id)
 }

@@ -1,5 +1,5 @@
 -- Words checked one after the other, each by what is kept of those before it, up to the first that is faulty; refusal 3.
-use mathlib.Core.Path.{◌≡◌, refl, sym, ◌∙◌}
+use mathlib.Core.Path.{◌≡◌, refl, sym, ◌∙◌, ap}
 use mathlib.Core.Bool.{Bool, true, false, not, ◌&&◌}
 use mathlib.Core.List.{List, [], ◌∷◌}
 use Prim.Native.Nat.{ℕ, ◌+◌, ◌≤◌, ◌<◌}
@@ -7,6 +7,8 @@ use native.Mathlib.Omega.{arith}
 use lib.ListN.{length, get_or, drop, drop_of_length-le}
 use lib.IntN.{ℤ, pos, negsuc, nat_abs}
 use lib.Dec.{ltb}
+use mir.Syntax.{w32}
+use mir.Val.{SFits}
 use borrow.Author.Tests.{le-ltb}
 use Rattle.rules.specs.Lists.{all_pass}
 use Rattle.rules.specs.Terms.{in_range, upd}
@@ -14,30 +16,30 @@ use Rattle.rules.specs.Frames.{number}
 use Rattle.rules.specs.Answers.{need, ◌then◌, flaw, unseen, ranged, is_above, ascending}
 use Rattle.rules.specs.declared.Fault.{Fault}
 use Rattle.rules.specs.declared.Fault.TheVariants.{Literal}
-use Rattle.rules.specs.declared.Check.{Check}
-use Rattle.rules.specs.declared.Check.TheVariants.{Passed, Failed}
+use Rattle.rules.specs.Results.{Check}
+use Rattle.std.specs.Prelude.{Ok, Err}
 use Rattle.rules.proofs.Lists.{from_index, all_nil, all_cons}
 use Rattle.rules.proofs.Checks.{then_left, then_right, need_true, flawless}
-use Rattle.lit.proofs.Signed.{wider, all_wider}
+use Rattle.lit.proofs.Signed.{back, said, wider, all_wider}
 
 pub record Scan (S : Type 0) : Type 0 where
   pub run : S → ℕ → List ℤ → Check
   pub sound : S → ℤ → Bool
   pub keep : S → ℤ → S
   pub fault : ℕ → Fault
-  pub at_end : (s : S) (n : ℕ) → run s n [] ≡ Passed
+  pub at_end : (s : S) (n : ℕ) → run s n [] ≡ Ok tt
   pub at_word : (s : S) (n : ℕ) (l : ℤ) (c : List ℤ) → run s n (l ∷ c) ≡ (need (sound s l) (fault n) then run (keep s l) (n + 1) c)
 
 -- a loop that checks the words of c, the first of which has the index at
 module _ {S : Type 0} (scan : Scan S) (whole : Check) (s : S) (at : ℕ) (c : List ℤ) (i : ℕ) (far : whole ≡ scan.run s (at + i) (drop i c)) where
-  pub all_sound : length c ≤ i → Passed ≡ whole
+  pub all_sound : length c ≤ i → Ok tt ≡ whole
   all_sound le = let q = drop_of_length-le c le in sym ((rw q at far) ∙ scan.at_end s (at + i))
 
   module _ (lt : i < length c) where
     word : let l = get_or c i (pos 0) in whole ≡ (need (scan.sound s l) (scan.fault (at + i)) then scan.run (scan.keep s l) (at + i + 1) (drop (i + 1) c))
     word = let q = from_index c i (pos 0) lt in (rw q at far) ∙ scan.at_word s (at + i) (get_or c i (pos 0)) (drop (i + 1) c)
 
-    pub faulty : scan.sound s (get_or c i (pos 0)) ≡ false → Failed (scan.fault (at + i)) ≡ whole
+    pub faulty : scan.sound s (get_or c i (pos 0)) ≡ false → Err (scan.fault (at + i)) ≡ whole
     unfolding need ◌then◌
     faulty f = let q = word in sym (rw f at q)
 
@@ -47,7 +49,7 @@ module _ {S : Type 0} (scan : Scan S) (whole : Check) (s : S) (at : ℕ) (c : Li
 
 module _ (vars : ℕ) where
   -- clauses and witnesses: the variables before are kept
-  pub flaw_end : (seen : ℕ → Bool) (n : ℕ) → flaw vars seen n [] ≡ Passed
+  pub flaw_end : (seen : ℕ → Bool) (n : ℕ) → flaw vars seen n [] ≡ Ok tt
   unfolding flaw
   flaw_end seen n = refl
 
@@ -68,7 +70,7 @@ module _ (vars : ℕ) where
       }
 
   -- assumptions: nothing is kept
-  pub ranged_end : (s : Unit {0}) (n : ℕ) → ranged vars n [] ≡ Passed
+  pub ranged_end : (s : Unit {0}) (n : ℕ) → ranged vars n [] ≡ Ok tt
   unfolding ranged
   ranged_end s n = refl
 
@@ -80,7 +82,7 @@ module _ (vars : ℕ) where
   ranges = record { run = λ s. ranged vars; sound = λ s. in_range vars; keep = λ s l. s; fault = Literal; at_end = ranged_end; at_word = ranged_word }
 
   -- true variables: the last one is kept
-  pub ascending_end : (last n : ℕ) → ascending vars last n [] ≡ Passed
+  pub ascending_end : (last n : ℕ) → ascending vars last n [] ≡ Ok tt
   unfolding ascending
   ascending_end last n = refl
 
@@ -101,16 +103,32 @@ module _ (vars : ℕ) where
       }
 
 -- a negative word counts as 0, which is above nothing
-pub above_is : (last : ℕ) (x : ℤ) → is_above last x ≡ ltb last (number x)
+above_is : (last : ℕ) (x : ℤ) → is_above last x ≡ ltb last (number x)
 above_is last (pos n) = refl
 above_is last (negsuc n) = sym (le-ltb last 0 (omega arith))
 
+-- ---- a word, as the code's tests read it
+
+module _ (vars : ℕ) {word : ℤ} (fits : SFits w32 word) {in_it : Bool} (tested : in_it ≡ in_range vars (back word)) where
+  pub range_is : in_range vars word ≡ in_it
+  range_is = sym (said (in_range vars) fits tested)
+
+  pub out : in_it ≡ false → (b : Bool) → (in_range vars word && b) ≡ false
+  out f b = let e = range_is ∙ f in rw e
+
+  module _ (t : in_it ≡ true) where
+    pub seen_is : {v : ℕ} (seen : ℕ → Bool) {there : Bool} → v ≡ nat_abs (back word) → there ≡ seen v → (in_range vars word && not (seen (nat_abs word))) ≡ not there
+    seen_is seen e s = let q = range_is ∙ t in let u = ap seen (said nat_abs fits e) in rw (q, s, u)
+
+    pub rises : {v : ℕ} (last : ℕ) → v ≡ number (back word) → (in_range vars word && is_above last word) ≡ ltb last v
+    rises last e = let q = range_is ∙ t in rw q (above_is last word ∙ ap (ltb last) (sym (said number fits e)))
+
 -- ---- what is known of words that pass
 
-pub flaw_in : (vars at : ℕ) (c : List ℤ) → vars ≤ 2048 → flaw vars unseen at c ≡ Passed → all_pass (in_range 2048) c ≡ true
+pub flaw_in : (vars at : ℕ) (c : List ℤ) → vars ≤ 2048 → flaw vars unseen at c ≡ Ok tt → all_pass (in_range 2048) c ≡ true
 flaw_in vars at c h e = all_wider vars c h (flawless vars unseen at c e).range
 
-pub ranged_in : (vars at : ℕ) (c : List ℤ) → vars ≤ 2048 → ranged vars at c ≡ Passed → all_pass (in_range 2048) c ≡ true
+pub ranged_in : (vars at : ℕ) (c : List ℤ) → vars ≤ 2048 → ranged vars at c ≡ Ok tt → all_pass (in_range 2048) c ≡ true
 unfolding ranged
 ranged_in vars at [] h e = all_nil (in_range 2048)
 ranged_in vars at (l ∷ c) h e = all_cons (in_range 2048) l c (wider vars l h (need_true _ _ (then_left _ _ e))) (ranged_in vars (at + 1) c h (then_right _ _ e))

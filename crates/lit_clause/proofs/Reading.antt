@@ -5,21 +5,12 @@ use mathlib.Core.List.{List}
 use Prim.Native.Nat.{ℕ, ◌+◌, ◌≤◌, ◌<◌}
 use lib.ListN.{length, get_or, drop, replicate, drop_of_length-le}
 use lib.IntN.{ℤ, pos}
-use mir.Syntax.{w32}
-use mir.Val.{SFits}
-use mir.Facts.{to_z-of_z}
-use Rattle.rules.specs.Lists.{any_passes, all_pass}
-use Rattle.rules.specs.Terms.{Literals, same, in_range, holds}
+use Rattle.rules.specs.Lists.{any_passes}
+use Rattle.rules.specs.Terms.{Literals, same, holds}
 use Rattle.rules.specs.Propagation.{also}
-use Rattle.rules.proofs.Lists.{from_index, any_on, any_past, all_index}
-use Rattle.lit.proofs.Signed.{back}
+use Rattle.rules.proofs.Lists.{from_index, any_on, any_past}
 use Rattle.lit_sets.specs.Words.{set_of}
 use Rattle.lit_sets.proofs.Sets.{zeros_empty}
-
--- the literal that is read at an index, by its bits
-pub read_in : (c : List ℤ) (i : ℕ) → all_pass (in_range 2048) c ≡ true → i < length c → SFits w32 (get_or c i (pos 0)) →
-    in_range 2048 (back (get_or c i (pos 0))) ≡ true
-read_in c i a lt f = rw (to_z-of_z f) (all_index (in_range 2048) c i (pos 0) lt a)
 
 -- ---- a look for a literal that passes a test
 

@@ -10,7 +10,7 @@ use Rattle.rules.specs.Lists.{any_passes, all_pass}
 use Rattle.rules.specs.Terms.{Assignment, in_range, holds, upd}
 use Rattle.rules.specs.Frames.{put, make, offered, number}
 use Rattle.rules.specs.Answers.{unseen, ascending, is_above}
-use Rattle.rules.specs.declared.Check.TheVariants.{Passed}
+use Rattle.std.specs.Prelude.{Ok}
 use Rattle.rules.proofs.Lists.{from_index, by_cases, and_left, and_right, all_nil, all_cons, all_head, all_tail}
 use Rattle.rules.proofs.Checks.{then_left, then_right, need_true}
 use Rattle.lit.specs.Signs.{is_natural}
@@ -50,7 +50,7 @@ pub offered_made : (vs : List ℤ) → all_pass (in_range 2048) vs ≡ true → 
 offered_made vs r p = fun_ext (λ v. make_positive vs unseen r p v ∙ or-false (holds vs (pos v)))
 
 -- "true variables not in 1 to V and rising": they are positive literals
-pub ascending_offers : (vars last at : ℕ) (vs : List ℤ) → vars ≤ 2048 → ascending vars last at vs ≡ Passed → (all_pass (in_range 2048) vs ≡ true)
+pub ascending_offers : (vars last at : ℕ) (vs : List ℤ) → vars ≤ 2048 → ascending vars last at vs ≡ Ok tt → (all_pass (in_range 2048) vs ≡ true)
     × (all_pass is_natural vs ≡ true)
 unfolding ascending
 ascending_offers vars last at [] h e = (all_nil (in_range 2048), all_nil is_natural)

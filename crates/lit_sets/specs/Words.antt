@@ -1,6 +1,7 @@
 -- What 32 words of 64 bits say: an assignment; and two such arrays, a set of literals.
 use Rattle.std.specs.Prelude.{Bool, false, cond, List, ℕ, zero, suc, ◌+◌, ◌/◌, ◌%◌, ◌^◌, get_or, pos, negsuc, eqb}
 use Rattle.rules.specs.Terms.{Assignment, Literals}
+use Rattle.lit_sets.specs.declared.LitSet.{LitSet}
 
 -- bit k of a word
 unfoldable pub bit : ℕ → ℕ → Bool
@@ -20,3 +21,7 @@ assigned ws (suc i) = bit (get_or ws (i / 64) 0) (i % 64)
 unfoldable pub set_of : List ℕ → List ℕ → Literals
 set_of plus minus (pos n) = assigned plus n
 set_of plus minus (negsuc n) = assigned minus (suc n)
+
+-- the literals of a set
+abbrev pub literals : LitSet → Literals
+literals s = set_of s.plus s.minus

@@ -2,7 +2,7 @@
 // would be copied each time.
 #![tactic(auto)]
 
-ghost use Rattle.std.specs.Prelude.{◌≡◌, true, ◌≤◌, length};
+ghost use Rattle.std.specs.Prelude.{◌≡◌, true, ◌≤◌, length, replicate};
 ghost use Rattle.std.specs.Int.Bits.{bit_xor};
 ghost use Rattle.rules.specs.Lists.{all_pass};
 ghost use Rattle.rules.specs.Terms.{in_range, opposes, upd, lit};
@@ -10,7 +10,7 @@ ghost use Rattle.rules.specs.Propagation as paper;
 ghost use Rattle.rules.specs.Frames.{make, offered};
 ghost use Rattle.rules.specs.Answers.{differing};
 ghost use Rattle.lit.specs.Signs.{is_natural};
-ghost use Rattle.lit_sets.specs.Words.{ones_below, assigned, set_of};
+ghost use Rattle.lit_sets.specs.Words.{ones_below, assigned, set_of, literals};
 
 pub fn value(words: &[u64; 32], v: usize) -> bool
     requires { (1 ≤ v) × (v ≤ 2048) }
@@ -52,11 +52,8 @@ pub fn make_true(words: [u64; 32], w: &[i32]) -> [u64; 32]
     ensures { assigned result ≡ make (assigned words) w.now }
 {
     let mut out = words;
-    let mut i: usize = 0;
-    while i < w.len() {
-        let l = w[i];
+    for &l in w {
         set_to(&mut out, lit::variable(l), lit::is_not_negative(l));
-        i += 1;
     }
     out
 }
@@ -80,22 +77,21 @@ pub fn changed(a: &[u64; 32], b: &[u64; 32]) -> usize
     ensures { result ≡ differing (assigned a.now) (assigned b.now) 2048 }
 {
     let mut n: usize = 0;
-    let mut i: usize = 0;
-    while i < 32 {
+    for i in 0..32 {
         n += bits_apart(a[i], b[i]);
-        i += 1;
     }
     n
 }
 
 // A set of literals: the variables of the positive ones, and of the negative ones.
 #[derive(Clone, Copy)]
-pub struct Marks {
+pub struct LitSet {
     pub plus: [u64; 32],
     pub minus: [u64; 32],
 }
 
-pub fn has(plus: &[u64; 32], minus: &[u64; 32], l: i32) -> bool
+// The sign picks the array, the variable the bit.
+fn within(plus: &[u64; 32], minus: &[u64; 32], l: i32) -> bool
     requires { in_range 2048 l ≡ true }
     ensures { result ≡ set_of plus.now minus.now l }
 {
@@ -106,23 +102,50 @@ pub fn has(plus: &[u64; 32], minus: &[u64; 32], l: i32) -> bool
     value(minus, v)
 }
 
-// The set holds the opposite of l.
-pub fn has_opposite(plus: &[u64; 32], minus: &[u64; 32], l: i32) -> bool
-    requires { in_range 2048 l ≡ true }
-    ensures { result ≡ opposes (set_of plus.now minus.now) l }
-{
-    has(minus, plus, l)
-}
+impl LitSet {
+    pub fn empty() -> LitSet
+        ensures { (result.plus ≡ replicate 32 0) × (result.minus ≡ replicate 32 0) }
+    {
+        LitSet {
+            plus: [0u64; 32],
+            minus: [0u64; 32],
+        }
+    }
 
-// The set takes up l.
-pub fn insert(plus: &mut [u64; 32], minus: &mut [u64; 32], l: i32)
-    requires { in_range 2048 l ≡ true }
-    ensures { set_of plus.new minus.new ≡ paper.also l (set_of plus.old minus.old) }
-{
-    let v = lit::variable(l);
-    if lit::is_not_negative(l) {
-        set_to(plus, v, true);
-    } else {
-        set_to(minus, v, true);
+    pub fn has(&self, l: i32) -> bool
+        requires { in_range 2048 l ≡ true }
+        ensures { result ≡ literals self.now l }
+    {
+        within(&self.plus, &self.minus, l)
+    }
+
+    // The set holds the opposite of l.
+    pub fn has_opposite(&self, l: i32) -> bool
+        requires { in_range 2048 l ≡ true }
+        ensures { result ≡ opposes (literals self.now) l }
+    {
+        within(&self.minus, &self.plus, l)
+    }
+
+    // The set takes up l.
+    pub fn insert(&mut self, l: i32)
+        requires { in_range 2048 l ≡ true }
+        ensures { literals self.new ≡ paper.also l (literals self.old) }
+    {
+        let v = lit::variable(l);
+        if lit::is_not_negative(l) {
+            set_to(&mut self.plus, v, true);
+        } else {
+            set_to(&mut self.minus, v, true);
+        }
+    }
+
+    // The set of the opposites.
+    pub fn opposites(self) -> LitSet
+        ensures { (result.plus ≡ self.minus) × (result.minus ≡ self.plus) }
+    {
+        let plus = self.minus;
+        let minus = self.plus;
+        LitSet { plus, minus }
     }
 }

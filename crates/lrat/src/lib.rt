@@ -3,6 +3,7 @@
 
 // A word of a line on its way. Its kind: 0 at the line's start, 1 a minus alone, 2 digits, 3 the letter d alone, 4 anything else, 5 between words. Behind a
 // minus or without, the digits say a number; what is above 2,147,483,647 names nothing, so numbers of 2^32 and above are told as that.
+// Here and below such a number stays one: a caller in C may hand in any bits between two parts and has them back word for word, which no enum could hold.
 #[derive(Clone, Copy)]
 pub struct ProofWord {
     pub kind: u32,
@@ -41,7 +42,7 @@ pub struct ProofReader {
     pub code: u32,
 }
 
-// An answer: its number, and its detail.
+// An answer: its number, and its detail. The number is that of document 02, by which the definitions answer: of those noted the least decides.
 #[derive(Clone, Copy)]
 pub struct LratAnswer {
     pub code: u32,

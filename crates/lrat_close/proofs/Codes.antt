@@ -10,8 +10,8 @@ use lib.ListN.{length}
 use borrow.Author.Tests.{lt-ltb, le-ltb, le-leb, lt-leb, ltb-true, leb-true, eqb-true}
 use Rattle.rules.specs.Terms.{Literals, State, is_clause, null, everything, room}
 use Rattle.rules.specs.Answers.{flaw, unseen}
-use Rattle.rules.specs.declared.Check.{Check}
-use Rattle.rules.specs.declared.Check.TheVariants.{Passed, Failed}
+use Rattle.rules.specs.Results.{Check}
+use Rattle.std.specs.Prelude.{Ok, Err}
 use Rattle.rules.specs.declared.Fault.{Fault}
 use Rattle.rules.proofs.Lists.{by_cases, and_right, or-false, not-false}
 use Rattle.rules.proofs.Checks.{clause_passes}
@@ -22,12 +22,12 @@ use Rattle.lrat.specs.declared.ProofLine.{ProofLine}
 
 -- ---- 31 to 36
 
-pub not_clause : (vars : ℕ) (c : List ℤ) {f : Fault} → flaw vars unseen 0 c ≡ Failed f → is_clause vars c ≡ false
+pub not_clause : (vars : ℕ) (c : List ℤ) {f : Fault} → flaw vars unseen 0 c ≡ Err f → is_clause vars c ≡ false
 not_clause vars c {f} e = by_cases (is_clause vars c)
-    (λ t. let p = clause_passes vars 0 c t in let z : ◌≡◌ {A = Check} Passed (Failed f) = sym p ∙ e in absurd (apart z))
+    (λ t. let p = clause_passes vars 0 c t in let z : ◌≡◌ {A = Check} (Ok tt) (Err f) = sym p ∙ e in absurd (apart z))
     (λ n. n)
   where
-    apart : Passed ≡ Failed f → ⊥
+    apart : ◌≡◌ {A = Check} (Ok tt) (Err f) → ⊥
     apart z = let y : ◌≡◌ {A = ℕ} 0 1 = cc in absurd (omega arith)
 
 module _ (s : State) (l : ProofLine) (c : List ℤ) (F : Literals) where

@@ -1,7 +1,7 @@
 // The end of a proof's line: judged by &, and a clause that passed goes into the table only then. Once the answer is known the table is empty.
 #![tactic(auto)]
 
-ghost use Rattle.std.specs.Prelude.{◌≡◌, List, ◌≤◌, min, ℤ, length, take};
+ghost use Rattle.std.specs.Prelude.{◌≡◌, List, ◌≤◌, ℤ, length, take};
 ghost use Rattle.rules.specs.Terms.{Literals, State};
 ghost use Rattle.table.specs.Spelled.{Fit, spelled};
 ghost use Rattle.lrat.specs.Machine as machine;
@@ -15,12 +15,6 @@ use table::{Row, Table};
 
 // ---- the number of refusal, or 0
 
-fn least(a: u32, b: u32) -> u32
-    ensures { result ≡ min a b }
-{
-    if a < b { a } else { b }
-}
-
 // 31 to 36, where one of them decides an addition, else 37.
 fn addition_fault(t: Table, l: ProofLine, lits: &[i32]) -> u32
     requires { (t.vars ≤ 2048) × Keeps l lits.now }
@@ -28,20 +22,20 @@ fn addition_fault(t: Table, l: ProofLine, lits: &[i32]) -> u32
         → result ≡ machine.addition_fault s (read_with l (take l.count lits.now) F) }
 {
     if l.id == 0 {
-        return least(l.noted, 31);
+        return l.noted.min(31);
     }
     if 2147483647 < l.id {
-        return least(l.noted, 31);
+        return l.noted.min(31);
     }
     let n = l.count as usize;
     let flaw = lit_clause::flaw(t.vars as usize, &lits[..n], 0);
-    if let Check::Failed(_) = flaw {
-        return least(l.noted, 33);
+    if let Err(_) = flaw {
+        return l.noted.min(33);
     }
     if l.id <= t.highest {
-        return least(l.noted, 34);
+        return l.noted.min(34);
     }
-    least(l.noted, 37)
+    l.noted.min(37)
 }
 
 // 12, then 13: room for a clause of n literals, by the counts alone.
@@ -123,7 +117,7 @@ pub fn emptied(t: Table) -> Table
     }
 }
 
-// The numbers beside the tables, the number of refusal, and whether the answer is known.
+// The numbers beside the tables, the number of refusal, and whether the answer is known: both go into the reader, which a caller in C may hand back.
 #[derive(Clone, Copy)]
 pub struct LineClosed {
     pub table: Table,

@@ -7,6 +7,7 @@ ghost use Rattle.lrat.specs.Checking as paper;
 ghost use Rattle.lrat.specs.Machine as machine;
 ghost use Rattle.lrat_feed.specs.Feeding.{Feedable, Feeds, session_of, start_reader, worded, refused_at_end};
 
+use lit_sets::LitSet;
 use lrat::{LratAnswer, ProofLine, ProofReader, ProofWord};
 use table::{Row, Table};
 
@@ -68,13 +69,12 @@ fn end_word(
     t: Table,
     r: ProofReader,
     lits: &mut [i32],
-    plus: &mut [u64; 32],
-    minus: &mut [u64; 32],
+    falses: &mut LitSet,
 ) -> Fed
     requires { Feedable t rows.old pool.now stack.now r lits.old }
-    ensures { Feeds (machine.end_word (session_of r lits.old plus.old minus.old
+    ensures { Feeds (machine.end_word (session_of r lits.old falses.old.plus falses.old.minus
         (spelled t rows.old pool.now stack.now)))
-        result rows.new pool.now stack.now lits.new plus.new minus.new }
+        result rows.new pool.now stack.now lits.new falses.new.plus falses.new.minus }
 {
     let word = r.word;
     if !lrat_words::is_word(word) {
@@ -85,7 +85,7 @@ fn end_word(
     }
     let before = r.line;
     let said = lrat_words::said(word);
-    let taken = lrat_line::take_word(rows, pool, stack, t, before, lits, plus, minus, said);
+    let taken = lrat_line::take_word(rows, pool, stack, t, before, lits, falses, said);
     let table = taken.table;
     let line = taken.line;
     Fed {
@@ -151,17 +151,17 @@ pub fn feed(
     t: Table,
     r: ProofReader,
     lits: &mut [i32],
-    plus: &mut [u64; 32],
-    minus: &mut [u64; 32],
+    falses: &mut LitSet,
 ) -> Fed
     requires { Feedable t rows.old pool.old stack.now r lits.old }
-    ensures { Feeds (machine.run (session_of r lits.old plus.old minus.old
+    ensures { Feeds (machine.run (session_of r lits.old falses.old.plus falses.old.minus
         (spelled t rows.old pool.old stack.now)) part.now)
-        result rows.new pool.new stack.now lits.new plus.new minus.new }
+        result rows.new pool.new stack.now lits.new falses.new.plus falses.new.minus }
 {
     let mut i: usize = 0;
     let mut table = t;
     let mut reader = r;
+    // Stays a `while`: the step is a word, and not one.
     while i < part.len() {
         if reader.over {
             break;
@@ -175,7 +175,7 @@ pub fn feed(
         }
         let b = part[i];
         i += 1;
-        let ended = end_word(rows, pool, stack, table, reader, lits, plus, minus);
+        let ended = end_word(rows, pool, stack, table, reader, lits, falses);
         table = ended.table;
         reader = ended.reader;
         if b == 10 {
@@ -197,13 +197,12 @@ fn end_line(
     t: Table,
     r: ProofReader,
     lits: &mut [i32],
-    plus: &mut [u64; 32],
-    minus: &mut [u64; 32],
+    falses: &mut LitSet,
 ) -> Fed
     requires { Feedable t rows.old pool.old stack.now r lits.old }
-    ensures { Feeds (machine.end_line (session_of r lits.old plus.old minus.old
+    ensures { Feeds (machine.end_line (session_of r lits.old falses.old.plus falses.old.minus
         (spelled t rows.old pool.old stack.now)))
-        result rows.new pool.new stack.now lits.new plus.new minus.new }
+        result rows.new pool.new stack.now lits.new falses.new.plus falses.new.minus }
 {
     let word = r.word;
     if word.kind == 0 {
@@ -212,7 +211,7 @@ fn end_line(
             reader: r,
         };
     }
-    let ended = end_word(rows, pool, stack, t, r, lits, plus, minus);
+    let ended = end_word(rows, pool, stack, t, r, lits, falses);
     let table = ended.table;
     let reader = ended.reader;
     close_line(rows, pool, stack, table, reader, lits)
@@ -240,13 +239,12 @@ pub fn finish(
     t: Table,
     r: ProofReader,
     lits: &mut [i32],
-    plus: &mut [u64; 32],
-    minus: &mut [u64; 32],
+    falses: &mut LitSet,
 ) -> Fed
     requires { Feedable t rows.old pool.old stack.now r lits.old }
-    ensures { Feeds (machine.finish (session_of r lits.old plus.old minus.old
+    ensures { Feeds (machine.finish (session_of r lits.old falses.old.plus falses.old.minus
         (spelled t rows.old pool.old stack.now)))
-        result rows.new pool.new stack.now lits.new plus.new minus.new }
+        result rows.new pool.new stack.now lits.new falses.new.plus falses.new.minus }
 {
     if r.over {
         return Fed {
@@ -254,7 +252,7 @@ pub fn finish(
             reader: r,
         };
     }
-    let ended = end_line(rows, pool, stack, t, r, lits, plus, minus);
+    let ended = end_line(rows, pool, stack, t, r, lits, falses);
     let reader = ended.reader;
     if reader.over {
         return ended;

@@ -13,7 +13,7 @@ use Rattle.rules.specs.Terms.{is_clause, State, everything, room}
 use Rattle.rules.specs.Frames.{ADD, plain, place, next}
 use Rattle.rules.specs.Answers.{numbers, ◌then◌, need, cleanly, free_entry, free_words, check}
 use Rattle.rules.specs.declared.Fault.TheVariants.{NoEntry, NoWords}
-use Rattle.rules.specs.declared.Check.TheVariants.{Passed}
+use Rattle.std.specs.Prelude.{Ok}
 use Rattle.rules.proofs.Lists.{all_head, all_tail}
 use Rattle.rules.proofs.Checks.{clause_passes}
 use Rattle.rules.proofs.Places.{length_place}
@@ -22,8 +22,7 @@ use Rattle.dimacs.specs.Reading.{sound, Cnf, read_text}
 use Rattle.dimacs.proofs.Lawful.{text_lawful}
 use Rattle.dimacs_frames.specs.Yields.{yields_into}
 use Rattle.dimacs_frames.specs.declared.Cursor.{Cursor}
-use Rattle.dimacs_frames.specs.declared.Yield.{Yield}
-use Rattle.dimacs_frames.specs.declared.Yield.TheVariants.{Frame}
+use Rattle.dimacs_frames.specs.Yielding.{Yield, yielded}
 use Rattle.dimacs_frames.proofs.Series.{handed_out}
 use Rattle.lrat.specs.Checking.{ask, ask_room, Filled, full, filled, fill, opened_for}
 use Rattle.lrat_fill.proofs.Left.{Left, left_first, lits_in, left_frame, left_none}
@@ -72,7 +71,7 @@ adding_first text x e entries words most o c fresh =
 
 module _ {text : List ℕ} {vars : ℕ} {whole : Filled} {c : Cursor} {s : State} (a : Adding text vars whole c s) (frame frame' : List ℤ)
     (wide : 258 ≤ length frame) where
-  pub adding_frame : (n : ℕ) (d : Cursor) → (Frame n d, frame') ≡ yields_into text c frame → Offered text vars whole d s (lits_in n frame')
+  pub adding_frame : (n : ℕ) (d : Cursor) → (yielded n d, frame') ≡ yields_into text c frame → Offered text vars whole d s (lits_in n frame')
   adding_frame n d q =
       let h = left_frame a.left frame frame' wide n d q in
       let named : c.id + 1 ≡ d.id = sym (handed_out text c frame frame' n d q).named in
@@ -84,7 +83,7 @@ module _ {text : List ℕ} {vars : ℕ} {whole : Filled} {c : Cursor} {s : State
         onward = a.onward ∙ ap₂ (fill s) named h.same;
       }
 
-  pub adding_none : (r : Yield) → (r, frame') ≡ yields_into text c frame → ((n : ℕ) (d : Cursor) → r ≡ Frame n d → ⊥) → whole ≡ filled s
+  pub adding_none : (r : Yield) → (r, frame') ≡ yields_into text c frame → ((n : ℕ) (d : Cursor) → r ≡ yielded n d → ⊥) → whole ≡ filled s
   unfolding fill
   adding_none r q last = a.onward ∙ ap (fill s (c.id + 1)) (left_none a.left frame frame' wide r q last (omega (arith, a.few)))
 
@@ -109,7 +108,7 @@ module _ {text : List ℕ} {vars : ℕ} {whole : Filled} {d : Cursor} {s : State
   pub offered_code : (numbers (answer_of (check s (ADD d.id c)))).0 ≡ ask_room s c 0
   offered_code = let e = room_decides in rw e (code_of (ltb (length (everything s)) s.entries) (leb (room (everything s) + length c) s.words))
 
-  free : (entry words : Bool) → ask entry 12 (ask words 13 0) ≡ 0 → (entry ≡ true) × ((need entry NoEntry then need words NoWords) ≡ Passed)
+  free : (entry words : Bool) → ask entry 12 (ask words 13 0) ≡ 0 → (entry ≡ true) × ((need entry NoEntry then need words NoWords) ≡ Ok tt)
   unfolding need ◌then◌
   free true true e = (refl, refl)
   free true false e = absurd (omega arith)
@@ -122,10 +121,10 @@ module _ {text : List ℕ} {vars : ℕ} {whole : Filled} {d : Cursor} {s : State
 
   -- accepted: the others are left
   module _ (free-room : ask_room s c 0 ≡ 0) where
-    free_so : (ltb (length (everything s)) s.entries ≡ true) × ((free_entry s then free_words s (length c)) ≡ Passed)
+    free_so : (ltb (length (everything s)) s.entries ≡ true) × ((free_entry s then free_words s (length c)) ≡ Ok tt)
     free_so = free (ltb (length (everything s)) s.entries) (leb (room (everything s) + length c) s.words) free-room
 
-    pub offered_passes : check s (ADD d.id c) ≡ Passed
+    pub offered_passes : check s (ADD d.id c) ≡ Ok tt
     offered_passes = room_decides ∙ free_so.1
 
     one_more_held : length (everything (next s (ADD d.id c))) ≡ length (everything s) + 1

@@ -16,10 +16,10 @@ use Rattle.dimacs.proofs.Clauses.{NextOf, clause_next}
 use Rattle.dimacs.proofs.Bodies.{Standing, from_stands, body_stands, clause_behind, text_body}
 use Rattle.dimacs_frames.specs.Yields.{yield_clause, into, yields_into}
 use Rattle.dimacs_frames.specs.declared.Cursor.{Cursor}
-use Rattle.dimacs_frames.specs.declared.Yield.{Yield}
-use Rattle.dimacs_frames.specs.declared.Yield.TheVariants.{Frame, NoneLeft}
+use Rattle.dimacs_frames.specs.Yielding.{Yield, yielded}
+use Rattle.std.specs.Prelude.{Ok, None}
 use Rattle.dimacs_frames.proofs.Frames.{behind_ends, into_first, into_next}
-use Rattle.dimacs_frames.proofs.Series.{handed_out}
+use Rattle.dimacs_frames.proofs.Series.{handed_out, yielded_same}
 
 -- the words behind the cursor are these clauses
 pub record Left (text : List ℕ) (vars : ℕ) (c : Cursor) (cs : List (List ℤ)) : Type 0 where
@@ -71,18 +71,18 @@ module _ {text : List ℕ} {vars : ℕ} {c : Cursor} {cs : List (List ℤ)} (l :
       }
 
   next_yields : (n : Next) → c.id < 2147483647 → let lits = n.clause.lits in yields_into text c frame
-      ≡ (Frame (2 + length lits) (record { at = n.clause.behind; id = c.id + 1 }), over frame (add_frame (c.id + 1) lits))
+      ≡ (yielded (2 + length lits) (record { at = n.clause.behind; id = c.id + 1 }), over frame (add_frame (c.id + 1) lits))
   next_yields n h = l.yields frame wide ∙ rw (n.next, lt-ltb c.id 2147483647 h)
 
-  none_yields : l.words ≡ [] → yields_into text c frame ≡ (NoneLeft, frame)
+  none_yields : l.words ≡ [] → yields_into text c frame ≡ (Ok None, frame)
   unfolding next_clause
   none_yields e = l.yields frame wide ∙ rw e
 
   -- a call that hands out a frame
-  pub left_frame : (n : ℕ) (d : Cursor) → (Frame n d, frame') ≡ yields_into text c frame → Handed text vars cs (lits_in n frame') d
+  pub left_frame : (n : ℕ) (d : Cursor) → (yielded n d, frame') ≡ yields_into text c frame → Handed text vars cs (lits_in n frame') d
   left_frame n d q = ⊎_elim
       (λ none.
-      let told : ◌≡◌ {A = Yield} (Frame n d) NoneLeft = ap (λ (x : Yield × List ℤ). x.0) (q ∙ none_yields none.1) in
+      let told : ◌≡◌ {A = Yield} (yielded n d) (Ok None) = ap (λ (x : Yield × List ℤ). x.0) (q ∙ none_yields none.1) in
       let z : ◌≡◌ {A = ℕ} 0 1 = cc in
       absurd (omega arith))
       (λ next.
@@ -91,15 +91,14 @@ module _ {text : List ℕ} {vars : ℕ} {c : Cursor} {cs : List (List ℤ)} (l :
       let all = q ∙ next_yields next (omega (arith, h.named, h.last)) in
       let told = ap (λ (x : Yield × List ℤ). x.0) all in
       let words : frame' ≡ over frame (add_frame (c.id + 1) lits) = ap (λ (x : Yield × List ℤ). x.1) all in
-      let count : n ≡ 2 + length lits = cc in
-      let at : d ≡ record { at = next.clause.behind; id = c.id + 1 } = cc in
+      let (count, at) = yielded_same told in
       let many : n - 2 ≡ length lits = omega arith in
       let literals : lits_in n frame' ≡ lits = rw (many, words) (take-append_seam lits _) in
       record { others = next.others; same = next.same ∙ ap (λ (ws : List ℤ). ws ∷ next.others) (sym literals); left = rw at (behind next c.id) })
       (clause_next vars (length text) l.few l.words [] cs l.read)
 
   -- a call that hands out none, though ids are left
-  pub left_none : (r : Yield) → (r, frame') ≡ yields_into text c frame → ((n : ℕ) (d : Cursor) → r ≡ Frame n d → ⊥) → c.id < 2147483647 → cs ≡ []
+  pub left_none : (r : Yield) → (r, frame') ≡ yields_into text c frame → ((n : ℕ) (d : Cursor) → r ≡ yielded n d → ⊥) → c.id < 2147483647 → cs ≡ []
   left_none r q last h = ⊎_elim
       (λ none. none.2)
       (λ next. absurd (last _ _ (ap (λ (x : Yield × List ℤ). x.0) (q ∙ next_yields next h))))

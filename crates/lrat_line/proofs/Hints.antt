@@ -1,33 +1,33 @@
 -- A hint: what it names among the rows held, and what reading its clause comes to.
 use mathlib.Core.Path.{◌≡◌, refl, sym, ◌∙◌, ap}
-use mathlib.Core.Bool.{Bool, true, false, not, cond}
+use mathlib.Core.Bool.{Bool, not, cond}
 use mathlib.Core.List.{List}
 use Prim.Native.Nat.{ℕ, ◌≤◌, ◌<◌}
 use native.Mathlib.Omega.{arith}
 use lib.IntN.{ℤ, pos, neg_ℤ}
-use borrow.Author.Tests.{eq-eqb, ne_eqb, le-leb, lt-leb}
-use Rattle.rules.specs.Terms.{Literals, State, everything}
+use borrow.Author.Tests.{eq-eqb, ne_eqb, le-leb}
+use Rattle.rules.specs.Terms.{Literals, everything}
 use Rattle.rules.specs.Propagation.{nobody, clause, Allowed, among, Looked, conflict, forced, bad, judge, also}
 use Rattle.lit_sets.specs.Words.{set_of}
 use Rattle.table.specs.Spelled.{Row, row_at, id_of, place_of, clause_part, held_rows, spelled, Readable, Located, Fit}
 use Rattle.table.specs.declared.Table.{Table}
-use Rattle.table.specs.declared.Found.TheVariants.{At, Nothing}
+use Rattle.std.specs.Prelude.{Some, None}
 use Rattle.table.proofs.Readers.{readable}
 use Rattle.judge_propagate.specs.Scope.{permits, all_clauses, allowed_of}
 use Rattle.judge_propagate.proofs.Allowed.{permits_far, permits_near, names_none, names_at}
 use Rattle.judge_propagate.proofs.Scopes.{allows_all}
 use Rattle.lrat.specs.Kept.{read_with}
-use Rattle.lrat.specs.Machine.{noting, in_phase, deciding, looked_at, take_hint}
+use Rattle.lrat.specs.Machine.{deciding, looked_at, take_hint}
 use Rattle.lrat.specs.declared.ProofLine.{ProofLine}
-use Rattle.lrat_line.specs.Lines.{HintTaken, hint_or_end}
+use Rattle.lrat_line.specs.Lines.{HintTaken}
 
 -- ---- what it names
 
 module _ {rows : List Row} {pool : List ℤ} (t : Readable rows pool) (id : ℕ) where
-  pub names_nobody : Located rows id Nothing → allowed_of all_clauses pool rows id ≡ nobody
+  pub names_nobody : Located rows id None → allowed_of all_clauses pool rows id ≡ nobody
   names_nobody = names_none rows all_clauses (pos id) t.positive pool
 
-  module _ (k : ℕ) (l : Located rows id (At k)) {p : ℕ} (e : p ≡ place_of (row_at rows k)) where
+  module _ (k : ℕ) (l : Located rows id (Some k)) {p : ℕ} (e : p ≡ place_of (row_at rows k)) where
     abbrev row : Row
     row = row_at rows k
 
@@ -54,18 +54,7 @@ module _ {t : Table} {rows : List Row} {pool : List ℤ} {stack : List ℕ} (f :
   abbrev F : Literals
   F = set_of plus minus
 
-  -- the hints have decided
-  pub hint_unread : (l.proof ≡ 0 → ⊥) → HintTaken (take_hint A v) l plus minus l plus minus
-  hint_unread n = let q = ne_eqb l.proof 0 n in record { counted = refl; taken = λ lits. rw q }
-
   module _ (z : l.proof ≡ 0) where
-    -- the number is no id
-    pub hint_past : 2147483647 < v → HintTaken (take_hint A v) l plus minus (deciding 2 l) plus minus
-    hint_past h =
-        let q = eq-eqb l.proof 0 z in
-        let p = lt-leb v 2147483647 h in
-        record { counted = refl; taken = λ lits. rw (q, p) }
-
     module _ (h : v ≤ 2147483647) where
       -- the clause among the rows held, where F is false
       abbrev looked : Looked
@@ -88,17 +77,3 @@ module _ {t : Table} {rows : List Row} {pool : List ℤ} {stack : List ℕ} (f :
 
         pub hint_bad : (looked ≡ bad) × (set_of plus' minus' ≡ F) → HintTaken (take_hint A v) l plus minus (deciding 2 l) plus' minus'
         hint_bad q = record { counted = refl; taken = λ lits. ap (read_with (deciding 2 l) lits) q.1 ∙ sym (looks bad q.0 lits) }
-
--- ---- 0 ends them, and a negative one is noted
-
-module _ (s : State) (minus : Bool) (v : ℕ) {l r : ProofLine} {P M : List ℕ} where
-  pub hints_end : v ≡ 0 → r ≡ in_phase 4 l → HintTaken (hint_or_end s minus v) l P M r P M
-  hints_end h e = let z = eq-eqb v 0 h in rw e (record { counted = refl; taken = λ lits. rw z })
-
-  module _ (h : v ≡ 0 → ⊥) where
-    pub hint_negative : minus ≡ true → r ≡ noting 36 l → HintTaken (hint_or_end s minus v) l P M r P M
-    hint_negative b e = let z = ne_eqb v 0 h in rw e (record { counted = refl; taken = λ lits. rw (z, b) })
-
-    pub hint_more : {P' M' : List ℕ} → minus ≡ false → HintTaken (take_hint (among (everything s)) v) l P M r P' M'
-        → HintTaken (hint_or_end s minus v) l P M r P' M'
-    hint_more b q = let z = ne_eqb v 0 h in record { counted = q.counted; taken = λ lits. rw (z, b) (q.taken lits) }

@@ -1,6 +1,5 @@
 -- A number among the literals: a literal in range goes behind those that are kept, where there is room; else a number of refusal is noted.
 use mathlib.Core.Path.{◌≡◌, refl, ◌∙◌}
-use mathlib.Core.Logic.{◌⊎◌, ⊎_elim}
 use mathlib.Core.Bool.{Bool, true, false}
 use mathlib.Core.List.{List, [], ◌∷◌, ◌++◌}
 use Prim.Native.Nat.{ℕ, zero, suc, ◌+◌, ◌≤◌, ◌<◌}
@@ -12,27 +11,20 @@ use lib.Seq.{take-suc-set}
 use mir.Syntax.{w32}
 use mir.Val.{SFits}
 use mir.Facts.{to_z-of_z}
-use borrow.Author.Tests.{ltb-true, lt-ltb, le-ltb, eq-eqb, ne_eqb}
+use borrow.Author.Tests.{ltb-true, lt-ltb}
 use Rattle.rules.specs.Lists.{all_pass}
 use Rattle.rules.specs.Terms.{in_range}
 use Rattle.rules.proofs.Lists.{all_nil, all_cons, all_append}
 use Rattle.lit.proofs.Signed.{back, wider}
-use Rattle.lit_sets.specs.Words.{set_of}
 use Rattle.text_numbers.specs.Told.{with_sign}
 use Rattle.lrat.specs.Kept.{Keeps}
-use Rattle.lrat.specs.Machine.{noting, in_phase}
+use Rattle.lrat.specs.Machine.{in_phase}
 use Rattle.lrat.specs.declared.ProofLine.{ProofLine}
-use Rattle.lrat_line.specs.Lines.{reading, LiteralTaken, LiteralsEnded, LineRead, literal_or_end}
+use Rattle.lrat_line.specs.Lines.{LiteralTaken}
 
 -- ---- a number with its sign as a literal
 
 module _ (vars : ℕ) where
-  sign_outside : (minus : Bool) (v : ℕ) → (v ≡ 0) ⊎ (vars < v) → in_range vars (with_sign minus v) ≡ false
-  sign_outside true zero h = refl
-  sign_outside false zero h = refl
-  sign_outside true (suc n) h = le-ltb n vars (⊎_elim (λ z. absurd (omega arith)) (λ p. omega arith) h)
-  sign_outside false (suc n) h = le-ltb n vars (⊎_elim (λ z. absurd (omega arith)) (λ p. omega arith) h)
-
   sign_inside : (minus : Bool) (v : ℕ) → (v ≡ 0 → ⊥) → v ≤ vars → in_range vars (with_sign minus v) ≡ true
   sign_inside minus zero n h = absurd (n refl)
   sign_inside true (suc k) n h = lt-ltb k vars (omega arith)
@@ -47,21 +39,9 @@ literal_fits (negsuc n) h = record { sfits = omega (arith, ltb-true n 2048 h) }
 -- ---- what is taken
 
 module _ (vars : ℕ) (minus : Bool) (v : ℕ) (l : ProofLine) (lits : List ℤ) (k : Keeps l lits) {e : ProofLine} (d : e ≡ in_phase 2 l) where
-  -- the line without the number
-  pub out_of_range : {r : ProofLine} → (v ≡ 0) ⊎ (vars < v) → r ≡ noting 32 e → LiteralTaken vars minus v l lits r lits
-  out_of_range h q =
-      let f = sign_outside vars minus v h in
-      rw (q, d) (record { keeps = record { long = k.long; few = k.few; ranged = k.ranged }; taken = λ F. rw f })
-
   module _ (some : v ≡ 0 → ⊥) (within : v ≤ vars) where
     inside : in_range vars (with_sign minus v) ≡ true
     inside = sign_inside vars minus v some within
-
-    pub too_many : {r : ProofLine} → l.count ≡ 256 → r ≡ noting 33 e → LiteralTaken vars minus v l lits r lits
-    too_many n q =
-        let t = inside in
-        let m = le-ltb l.count 256 (omega arith) in
-        rw (q, d) (record { keeps = record { long = k.long; few = k.few; ranged = k.ranged }; taken = λ F. rw (t, m) })
 
     -- the line with it
     module _ (n : l.count ≡ 256 → ⊥) (small : vars ≤ 2048) where
@@ -94,16 +74,3 @@ module _ (vars : ℕ) (minus : Bool) (v : ℕ) (l : ProofLine) (lits : List ℤ)
             keeps = record { long = length-set lits l.count (with_sign minus v) ∙ k.long; few = omega (arith, room); ranged = rw o ranged };
             taken = λ F. rw (t, m, o);
           })
-
--- ---- 0 ends them
-
-module _ (vars : ℕ) (minus : Bool) (v : ℕ) (l : ProofLine) (lits : List ℤ) (P M : List ℕ) {r : ProofLine} where
-  pub literals_end : {P' M' : List ℕ} → v ≡ 0 → Keeps l lits → LiteralsEnded l lits r P' M'
-      → LineRead (literal_or_end vars minus v (reading l lits P M)) r lits P' M'
-  literals_end h k q =
-      let z = eq-eqb v 0 h in
-      rw q.0 (record { keeps = record { long = k.long; few = k.few; ranged = k.ranged }; taken = rw (z, q.1) })
-
-  pub literal_more : {lits' : List ℤ} → (v ≡ 0 → ⊥) → LiteralTaken vars minus v l lits r lits'
-      → LineRead (literal_or_end vars minus v (reading l lits P M)) r lits' P M
-  literal_more h q = let z = ne_eqb v 0 h in record { keeps = q.keeps; taken = rw z (q.taken (set_of P M)) }

@@ -1,16 +1,12 @@
 -- What is told of the words of a line.
-use Rattle.std.specs.Prelude.{◌≡◌, Bool, cond, List, ℕ, eqb, ℤ, neg_ℤ, take}
+use Rattle.std.specs.Prelude.{◌≡◌, Bool, cond, List, ℕ, eqb, ℤ, take}
 use Rattle.rules.specs.Terms.{Literals, State, holds}
-use Rattle.rules.specs.Propagation.{also}
-use Rattle.rules.specs.Propagation as paper
 use Rattle.lit_sets.specs.Words.{set_of}
 use Rattle.table.specs.Spelled.{Row, spelled, Fit}
 use Rattle.text_numbers.specs.Told.{with_sign}
 use Rattle.lrat.specs.Kept.{Keeps, read_with}
 use Rattle.lrat.specs.Machine.{Reading, Step, step, in_phase, take_literal, end_literals, among_hints}
 use Rattle.lrat.specs.declared.ProofLine.{ProofLine}
-use Rattle.lrat_line.specs.declared.Looked.{Looked}
-use Rattle.lrat_line.specs.declared.Looked.TheVariants.{Conflict, Forced, Bad}
 use Rattle.lrat_line.specs.declared.Taken.{Taken}
 
 -- what a line, the buffer and the two arrays hold
@@ -36,12 +32,6 @@ abbrev pub literal_or_end : ℕ → Bool → ℕ → Reading → Reading
 literal_or_end vars minus v r = cond (eqb v 0) (end_literals r) (take_literal vars (with_sign minus v) r)
 
 -- ---- hints
-
--- what the paper says of a hint where F is false, and what is false after it
-abbrev pub HintRead : paper.Looked → Literals → Looked → Literals → Type 0
-HintRead q F Conflict G = (q ≡ paper.conflict) × (G ≡ F)
-HintRead q F Forced G = (u : ℤ) × (q ≡ paper.forced u) × (G ≡ also (neg_ℤ u) F)
-HintRead q F Bad G = (q ≡ paper.bad) × (G ≡ F)
 
 -- the literals stay, whatever they are
 pub record HintTaken (takes : Reading → Reading) (l : ProofLine) (plus minus : List ℕ) (r : ProofLine) (plus' minus' : List ℕ) : Type 0 where

@@ -5,16 +5,19 @@
 ghost use Rattle.std.specs.Prelude.{◌≡◌, ◌≤◌};
 ghost use Rattle.rules.specs.Terms.{everything};
 ghost use Rattle.rules.specs.Propagation.{among, judge};
-ghost use Rattle.lit_sets.specs.Words.{set_of};
+ghost use Rattle.lit_sets.specs.Words.{literals};
 ghost use Rattle.table.specs.Spelled.{Fit, Located, Readable, Rising, spelled};
+ghost use Rattle.judge_propagate.specs.Look.{HintRead};
 ghost use Rattle.judge_propagate.specs.Scope.{all_clauses, allowed_of};
 ghost use Rattle.lrat.specs.Machine as machine;
 ghost use Rattle.lrat.specs.Kept.{Keeps};
 ghost use Rattle.lrat_line.specs.Lines.{reading, LiteralTaken, LiteralsEnded, LineRead, literal_or_end};
-ghost use Rattle.lrat_line.specs.Lines.{HintRead, HintTaken, hint_or_end, DeletedTaken, Takes};
+ghost use Rattle.lrat_line.specs.Lines.{HintTaken, hint_or_end, DeletedTaken, Takes};
 
+use judge_propagate::Looked;
+use lit_sets::LitSet;
 use lrat::{LineWord, ProofLine};
-use table::{Found, Row, Table};
+use table::{Row, Table};
 
 // ---- what is noted
 
@@ -73,21 +76,12 @@ fn take_literal(vars: u32, l: ProofLine, lits: &mut [i32], minus: bool, v: u64) 
 }
 
 // All literals are read: they are false.
-fn end_literals(
-    l: ProofLine,
-    lits: &[i32],
-    plus: &mut [u64; 32],
-    minus: &mut [u64; 32],
-) -> ProofLine
+fn end_literals(l: ProofLine, lits: &[i32], falses: &mut LitSet) -> ProofLine
     requires { Keeps l lits.now }
-    ensures { LiteralsEnded l lits.now result plus.new minus.new }
+    ensures { LiteralsEnded l lits.now result falses.new.plus falses.new.minus }
 {
     let n = l.count as usize;
-    let falses = lit_clause::mark(&lits[..n]);
-    let positive = falses.plus;
-    let negative = falses.minus;
-    *plus = positive;
-    *minus = negative;
+    *falses = lit_clause::mark(&lits[..n]);
     enter(l, 3)
 }
 
@@ -96,33 +90,24 @@ fn among_literals(
     vars: u32,
     l: ProofLine,
     lits: &mut [i32],
-    plus: &mut [u64; 32],
-    minus: &mut [u64; 32],
+    falses: &mut LitSet,
     negative: bool,
     v: u64,
 ) -> ProofLine
     requires { (vars ≤ 2048) × Keeps l lits.old }
-    ensures { LineRead (literal_or_end vars negative v (reading l lits.old plus.old minus.old))
-        result lits.new plus.new minus.new }
+    ensures { LineRead (literal_or_end vars negative v (reading l lits.old falses.old.plus falses.old.minus))
+        result lits.new falses.new.plus falses.new.minus }
 {
     if v == 0 {
-        return end_literals(l, lits, plus, minus);
+        return end_literals(l, lits, falses);
     }
     take_literal(vars, l, lits, negative, v)
 }
 
 // ---- hints
 
-// What a hint does: its clause is false, or forces its one open literal, whose opposite is false then; or it is a bad hint.
-#[derive(Clone, Copy)]
-enum Looked {
-    Conflict,
-    Forced,
-    Bad,
-}
-
 // The row of an id. The clauses of the rules have the ids 1, 2, 3 and so on, so the first guess is the row of that number; the row's own id decides.
-fn find_row(rows: &[Row], id: u32) -> Found
+fn find_row(rows: &[Row], id: u32) -> Option<usize>
     requires { Rising rows.now }
     ensures { Located rows.now id result }
 {
@@ -130,48 +115,25 @@ fn find_row(rows: &[Row], id: u32) -> Found
     if 0 < behind && behind <= rows.len() {
         let k = behind - 1;
         if table::id_at(rows, k) == id {
-            return Found::At(k);
+            return Some(k);
         }
     }
     table::find(rows, id)
 }
 
 // One hint, read by the clause that it names among the rows held.
-fn read_hint(
-    rows: &[Row],
-    pool: &[i32],
-    id: u32,
-    plus: &mut [u64; 32],
-    minus: &mut [u64; 32],
-) -> Looked
+fn read_hint(rows: &[Row], pool: &[i32], id: u32, falses: &mut LitSet) -> Looked
     requires { Readable rows.now pool.now }
-    ensures { HintRead (judge (set_of plus.old minus.old) (allowed_of all_clauses pool.now rows.now id))
-        (set_of plus.old minus.old) result (set_of plus.new minus.new) }
+    ensures { HintRead (judge (literals falses.old) (allowed_of all_clauses pool.now rows.now id))
+        (literals falses.old) result (literals falses.new) }
 {
-    let Found::At(k) = find_row(rows, id) else {
+    let Some(k) = find_row(rows, id) else {
         return Looked::Bad;
     };
     if 2 < table::place_at(rows, k) {
         return Looked::Bad;
     }
-    let clause = table::clause_of(rows, pool, k);
-    let mut open: i32 = 0;
-    let mut i: usize = 0;
-    while i < clause.len() {
-        let l = clause[i];
-        if !lit_sets::has(plus, minus, l) {
-            if open != 0 || lit_sets::has_opposite(plus, minus, l) {
-                return Looked::Bad;
-            }
-            open = l;
-        }
-        i += 1;
-    }
-    if open == 0 {
-        return Looked::Conflict;
-    }
-    lit_sets::insert(plus, minus, lit::opposite(open));
-    Looked::Forced
+    judge_propagate::look(table::clause_of(rows, pool, k), falses)
 }
 
 // A hint, while the hints go on.
@@ -182,12 +144,11 @@ fn take_hint(
     t: Table,
     l: ProofLine,
     v: u64,
-    plus: &mut [u64; 32],
-    minus: &mut [u64; 32],
+    falses: &mut LitSet,
 ) -> ProofLine
     requires { Fit t rows.now pool.now stack.now }
     ensures { HintTaken (machine.take_hint (among (everything (spelled t rows.now pool.now stack.now))) v)
-        l plus.old minus.old result plus.new minus.new }
+        l falses.old.plus falses.old.minus result falses.new.plus falses.new.minus }
 {
     let mut r = l;
     if l.proof != 0 {
@@ -198,7 +159,7 @@ fn take_hint(
         return r;
     }
     let n = t.count as usize;
-    let looked = read_hint(&rows[..n], pool, v as u32, plus, minus);
+    let looked = read_hint(&rows[..n], pool, v as u32, falses);
     match looked {
         Looked::Conflict => r.proof = 1,
         Looked::Forced => (),
@@ -214,14 +175,13 @@ fn among_hints(
     stack: &[u32],
     t: Table,
     l: ProofLine,
-    plus: &mut [u64; 32],
-    minus: &mut [u64; 32],
+    falses: &mut LitSet,
     negative: bool,
     v: u64,
 ) -> ProofLine
     requires { Fit t rows.now pool.now stack.now }
     ensures { HintTaken (hint_or_end (spelled t rows.now pool.now stack.now) negative v)
-        l plus.old minus.old result plus.new minus.new }
+        l falses.old.plus falses.old.minus result falses.new.plus falses.new.minus }
 {
     if v == 0 {
         return enter(l, 4);
@@ -229,7 +189,7 @@ fn among_hints(
     if negative {
         return note(l, 36);
     }
-    take_hint(rows, pool, stack, t, l, v, plus, minus)
+    take_hint(rows, pool, stack, t, l, v, falses)
 }
 
 // ---- deleted ids
@@ -261,13 +221,13 @@ fn take_deleted(
         };
     }
     let id = v as u32;
-    if let Found::At(k) = judge_checks::locate(rows, t, 1, id) {
+    if let Some(k) = judge_checks::locate(rows, t, 1, id) {
         return Taken {
             table: table_write::remove(rows, pool, stack, t, k),
             line: l,
         };
     }
-    if let Found::At(k) = judge_checks::locate(rows, t, 0, id) {
+    if let Some(k) = judge_checks::locate(rows, t, 0, id) {
         return Taken {
             table: table_write::remove(rows, pool, stack, t, k),
             line: l,
@@ -318,15 +278,14 @@ fn take_number(
     t: Table,
     l: ProofLine,
     lits: &mut [i32],
-    plus: &mut [u64; 32],
-    minus: &mut [u64; 32],
+    falses: &mut LitSet,
     negative: bool,
     v: u64,
 ) -> Taken
     requires { Fit t rows.old pool.now stack.now × Keeps l lits.old }
     ensures { Takes (machine.take_number (spelled t rows.old pool.now stack.now) negative v
-        (reading l lits.old plus.old minus.old))
-        result rows.new pool.now stack.now lits.new plus.new minus.new }
+        (reading l lits.old falses.old.plus falses.old.minus))
+        result rows.new pool.now stack.now lits.new falses.new.plus falses.new.minus }
 {
     if l.phase == 5 {
         return among_ids(rows, pool, stack, t, l, negative, v);
@@ -336,9 +295,9 @@ fn take_number(
         line.phase = 1;
         line.id = id_said(negative, v);
     } else if l.phase < 3 {
-        line = among_literals(t.vars, l, lits, plus, minus, negative, v);
+        line = among_literals(t.vars, l, lits, falses, negative, v);
     } else if l.phase == 3 {
-        line = among_hints(rows, pool, stack, t, l, plus, minus, negative, v);
+        line = among_hints(rows, pool, stack, t, l, falses, negative, v);
     } else {
         line = note(l, 31);
     }
@@ -353,18 +312,17 @@ pub fn take_word(
     t: Table,
     l: ProofLine,
     lits: &mut [i32],
-    plus: &mut [u64; 32],
-    minus: &mut [u64; 32],
+    falses: &mut LitSet,
     word: LineWord,
 ) -> Taken
     requires { Fit t rows.old pool.now stack.now × Keeps l lits.old }
     ensures { Takes (machine.take_word (spelled t rows.old pool.now stack.now) word
-        (reading l lits.old plus.old minus.old))
-        result rows.new pool.now stack.now lits.new plus.new minus.new }
+        (reading l lits.old falses.old.plus falses.old.minus))
+        result rows.new pool.now stack.now lits.new falses.new.plus falses.new.minus }
 {
     match word {
         LineWord::Number(negative, v) => take_number(
-            rows, pool, stack, t, l, lits, plus, minus, negative, v,
+            rows, pool, stack, t, l, lits, falses, negative, v,
         ),
         LineWord::Deletion => {
             if l.phase == 1 {

@@ -42,10 +42,11 @@ pub record Read (s : State) (ended : Bool) (t : Table) (rows : List Row) (pool :
   pub feedable : Feedable t rows pool stack r lits
   pub ran : session_of r lits plus minus (spelled t rows pool stack) ≡ cond ended (finish (run (started s) bytes)) (run (started s) bytes)
 
-pub none_read : {t : Table} {rows : List Row} {pool : List ℤ} {stack : List ℕ} {r : ProofReader} → Fit t rows pool stack → r ≡ start_reader →
-    Read (spelled t rows pool stack) false t rows pool stack r (replicate 256 (ℤ.pos 0)) (replicate 32 0) (replicate 32 0)
+pub none_read : {t : Table} {rows : List Row} {pool : List ℤ} {stack : List ℕ} {r : ProofReader} {plus minus : List ℕ} → Fit t rows pool stack →
+    r ≡ start_reader → (plus ≡ replicate 32 0) × (minus ≡ replicate 32 0) →
+    Read (spelled t rows pool stack) false t rows pool stack r (replicate 256 (ℤ.pos 0)) plus minus
 unfolding run
-none_read fit e = rw e (record {
+none_read fit e z = rw (e, z.0, z.1) (record {
   bytes = [];
   feedable = record {
     fit = fit;

@@ -7,14 +7,16 @@ ghost use Rattle.lrat_feed.specs.Feeding.{Feedable, Feeds, session_of};
 ghost use Rattle.lrat_serve.specs.Serving.{Tells, Serves, onward, concluded};
 
 use dimacs::TextFault;
+use lit_sets::LitSet;
 use lrat::{LratAnswer, ProofReader};
 use lrat_feed::Fed;
-use lrat_fill::FilledText;
+use lrat_fill::Unfilled;
 use std::fs::File;
 use std::io;
 use std::io::{Read, Write};
 use table::{Row, Table};
 
+// Stays an enum of its own: two of the four are no errors, and each has its own promise.
 // What checking came to: the rules have a fault; the answer is known, whatever stands behind what was read of the proof; it is that of a proof read to its
 // end; or a read failed, for this reason, and there is none.
 #[derive(Clone, Copy)]
@@ -58,18 +60,17 @@ fn feed_on(
     t: Table,
     r: ProofReader,
     lits: &mut [i32],
-    plus: &mut [u64; 32],
-    minus: &mut [u64; 32],
+    falses: &mut LitSet,
 ) -> Fed
     requires { Feedable t rows.old pool.old stack.now r lits.old }
-    ensures { Feeds (onward (session_of r lits.old plus.old minus.old
+    ensures { Feeds (onward (session_of r lits.old falses.old.plus falses.old.minus
         (spelled t rows.old pool.old stack.now)) part.now)
-        result rows.new pool.new stack.now lits.new plus.new minus.new }
+        result rows.new pool.new stack.now lits.new falses.new.plus falses.new.minus }
 {
     if part.len() == 0 {
-        return lrat_feed::finish(rows, pool, stack, t, r, lits, plus, minus);
+        return lrat_feed::finish(rows, pool, stack, t, r, lits, falses);
     }
-    lrat_feed::feed(part, rows, pool, stack, t, r, lits, plus, minus)
+    lrat_feed::feed(part, rows, pool, stack, t, r, lits, falses)
 }
 
 // The answer where there is one: it was known before the end, or at it.
@@ -86,16 +87,6 @@ fn conclude(ended: bool, r: ProofReader, failure: io::Error) -> Checked
     Checked::Known(answer)
 }
 
-// How many bytes a read put at the start of the buffer: none where it failed.
-fn count(got: io::Result<usize>, buf: &[u8]) -> usize
-    ensures { result ≤ length buf.now }
-{
-    match got {
-        Ok(n) => n.min(buf.len()),
-        Err(_) => 0,
-    }
-}
-
 // Reads a proof in parts of 64 KiB, to its end or until its answer is known. No file has 2^63 bytes.
 fn check<R: Read>(
     proof: &mut R,
@@ -110,20 +101,21 @@ fn check<R: Read>(
 {
     let mut buf = [0u8; 65536];
     let mut lits = [0i32; 256];
-    let mut plus = [0u64; 32];
-    let mut minus = [0u64; 32];
+    let mut falses = LitSet::empty();
     let mut table = t;
     let mut reader = lrat_feed::start();
     let mut ended = false;
     let mut failure = io::Error::from(io::ErrorKind::FileTooLarge);
     let mut read: u64 = 0;
+    // Stays a `while`: the step is as long as the read was.
     while read < 9223372036854775808 {
-        let got = proof.read(&mut buf);
-        if let Err(reason) = got {
-            failure = reason;
-            break;
-        }
-        let n = count(got, &buf);
+        let n = match proof.read(&mut buf) {
+            Ok(n) => n,
+            Err(reason) => {
+                failure = reason;
+                break;
+            }
+        };
         let fed = feed_on(
             &buf[..n],
             rows,
@@ -132,8 +124,7 @@ fn check<R: Read>(
             table,
             reader,
             &mut lits,
-            &mut plus,
-            &mut minus,
+            &mut falses,
         );
         table = fed.table;
         reader = fed.reader;
@@ -151,36 +142,17 @@ fn check<R: Read>(
 
 // ---- the rules and the proof
 
-// More rows than entries, so that those of deleted clauses need not be closed up at once.
-fn vacant_rows() -> [Row; 1280]
-    ensures { length result ≡ 1280 }
-{
-    [[0u32; 5]; 1280]
-}
-
-fn vacant_pool() -> [i32; 8192]
-    ensures { length result ≡ 8192 }
-{
-    [0i32; 8192]
-}
-
-fn vacant_stack() -> [u32; 1024]
-    ensures { length result ≡ 1024 }
-{
-    [0u32; 1024]
-}
-
 // Checks a proof that is read against rules as a text of any bytes, in tables of 1,024 entries and 8,192 words.
 pub fn serve<R: Read>(rules: &[u8], proof: &mut R, terminal: &mut Option<File>) -> Checked
     ensures { (bs : List ℕ) × Serves rules.now bs result }
 {
-    let mut rows = vacant_rows();
-    let mut pool = vacant_pool();
-    let stack = vacant_stack();
-    let filled = lrat_fill::fill(rules, &mut rows, &mut pool, &stack, 1024);
-    match filled {
-        FilledText::Faulty(f) => Checked::Faulty(f),
-        FilledText::Full(code, _) => Checked::Known(LratAnswer { code, detail: 0 }),
-        FilledText::Working(t) => check(proof, terminal, &mut rows, &mut pool, &stack, t),
+    // more rows than entries, so that those of deleted clauses need not be closed up at once
+    let mut rows = [[0u32; 5]; 1280];
+    let mut pool = [0i32; 8192];
+    let stack = [0u32; 1024];
+    match lrat_fill::fill(rules, &mut rows, &mut pool, &stack, 1024) {
+        Ok(t) => check(proof, terminal, &mut rows, &mut pool, &stack, t),
+        Err(Unfilled::Faulty(f)) => Checked::Faulty(f),
+        Err(Unfilled::Full(code, _)) => Checked::Known(LratAnswer { code, detail: 0 }),
     }
 }

@@ -18,7 +18,7 @@ use Rattle.text.proofs.Words.{behind_word}
 use Rattle.text_numbers.specs.Numbers.{integer_of}
 use Rattle.text_numbers.specs.Told.{capped, with_sign}
 use Rattle.text_numbers.specs.declared.Integer.{Integer}
-use Rattle.text_next.specs.Next.{QuickTold}
+use Rattle.text_next.specs.Next.{QuickSaid}
 use Rattle.lrat.specs.Lines.{is_d}
 use Rattle.lrat.specs.Machine.{word, is_word, pushes, said}
 use Rattle.lrat.specs.declared.LineWord.TheVariants.{Number}
@@ -81,9 +81,9 @@ pushed_at_once w (b ∷ bs) z minus v e q m =
     of_digits _ minus v ((spoken w b bs e).heard_so ∙ ap (λ (o : Option ℤ). heard_as o (is_d (b ∷ bs))) q ∙ m)
 
 pub taken_at_once : {part : List ℕ} {from : ℕ} {w : ProofWord} {r : Integer} → from ≤ length part → is_word w ≡ false →
-    QuickTold (word_at from part) from r → r.number ≡ true → TookWord part from w (record { from = r.end; word = word 2 r.minus r.value })
-taken_at_once {part} {from} {w} {r} h e q t =
-    let (n, is, value, ends) = q.number t in
+    QuickSaid (word_at from part) from r → TookWord part from w (record { from = r.end; word = word 2 r.minus r.value })
+taken_at_once {part} {from} {w} {r} h e q =
+    let (n, is, value, ends) = q.number in
     rw ends (record {
       pushed = record {
         low = omega arith;
@@ -92,7 +92,7 @@ taken_at_once {part} {from} {w} {r} h e q t =
         read =
             rw (word_slice part from h)
             (sym (pushed_at_once w (word_at from part) (with_sign r.minus n) r.minus r.value e is
-            (heard_so r.minus n r.value value (q.small t) (q.signed t))));
+            (heard_so r.minus n r.value value q.small q.signed)));
       };
       stops = behind_word part from;
     })

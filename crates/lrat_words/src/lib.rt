@@ -13,22 +13,14 @@ use lrat::{LineWord, ProofWord};
 pub fn at_start() -> ProofWord
     ensures { result ≡ machine.at_start }
 {
-    ProofWord {
-        kind: 0,
-        minus: false,
-        value: 0,
-    }
+    of_kind(0, false)
 }
 
 // A blank was read last.
 pub fn between() -> ProofWord
     ensures { result ≡ machine.between }
 {
-    ProofWord {
-        kind: 5,
-        minus: false,
-        value: 0,
-    }
+    of_kind(5, false)
 }
 
 // One digit more. All numbers from 2^32 on are told as that, so nothing overflows, whatever was told before.
@@ -39,11 +31,7 @@ fn grown(v: u64, d: u64) -> u64
     if 4294967296 <= v {
         return 4294967296;
     }
-    let n = v * 10 + d;
-    if 4294967296 < n {
-        return 4294967296;
-    }
-    n
+    (v * 10 + d).min(4294967296)
 }
 
 // A word of this kind that says no number yet.
@@ -65,7 +53,7 @@ fn begin(b: u8) -> ProofWord
         return ProofWord {
             kind: 2,
             minus: false,
-            value: text_numbers::wide(b) - 48,
+            value: u64::from(b - 48),
         };
     }
     if b == 45 {
@@ -82,11 +70,10 @@ fn digit_or(w: ProofWord, b: u8) -> ProofWord
     ensures { result ≡ machine.digit_or w b }
 {
     if text_numbers::is_digit(b) {
-        let d = text_numbers::wide(b) - 48;
         return ProofWord {
             kind: 2,
             minus: w.minus,
-            value: grown(w.value, d),
+            value: grown(w.value, u64::from(b - 48)),
         };
     }
     of_kind(4, false)
@@ -103,6 +90,7 @@ pub fn is_word(w: ProofWord) -> bool
 }
 
 // One byte more, no blank.
+#[tactic(auto, unfolding(lrat::specs::Machine::push))]
 fn push(w: ProofWord, b: u8) -> ProofWord
     ensures { result ≡ machine.push w b }
 {
@@ -129,17 +117,18 @@ fn take_byte_by_byte(part: &[u8], from: usize, w: ProofWord) -> WordTaken
     requires { from ≤ length part.now }
     ensures { TookWord part.now from w result }
 {
-    let mut i = from;
     let mut word = w;
-    while i < part.len() {
+    for i in from..part.len() {
         let b = part[i];
         if text::is_blank(b) {
-            break;
+            return WordTaken { from: i, word };
         }
         word = push(word, b);
-        i += 1;
     }
-    WordTaken { from: i, word }
+    WordTaken {
+        from: part.len(),
+        word,
+    }
 }
 
 // Takes bytes from `from` on until a blank, or the part's end. Most words are short numbers, which begin and end in the same part: these are read at once.
@@ -149,8 +138,7 @@ pub fn take_bytes(part: &[u8], from: usize, w: ProofWord) -> WordTaken
 {
     if !is_word(w) {
         if 8 <= part.len() - from {
-            let read = text_next::quick(part, from);
-            if read.number {
+            if let Some(read) = text_next::quick(part, from) {
                 return WordTaken {
                     from: read.end,
                     word: ProofWord {
@@ -168,6 +156,7 @@ pub fn take_bytes(part: &[u8], from: usize, w: ProofWord) -> WordTaken
 // ---- the end of a word
 
 // What the word is, where it ends here. There is no -0.
+#[tactic(auto, unfolding(lrat::specs::Machine::said))]
 pub fn said(w: ProofWord) -> LineWord
     ensures { result ≡ machine.said w }
 {

@@ -14,42 +14,42 @@ use Rattle.rules.specs.Histories.{models, Assumes}
 use Rattle.rules.specs.declared.Verdict.{Verdict}
 use Rattle.rules.specs.declared.Verdict.TheVariants.{Proved, BadHint, UsedUp}
 use Rattle.rules.specs.declared.Fault.{Fault}
-use Rattle.rules.specs.declared.Check.{Check}
-use Rattle.rules.specs.declared.Check.TheVariants.{Passed, Failed}
+use Rattle.rules.specs.Results.{Check}
+use Rattle.std.specs.Prelude.{Ok, Err}
 use Rattle.rules.proofs.Lists.{by_cases, true-false, not-true, or_left, or_right, and_left, and_right, and_both, all_nil, all_cons, all_head, all_tail}
 use Rattle.rules.proofs.Held.{meets, clean_of, clean_all}
 
-pub then_left : (a b : Check) → (a then b) ≡ Passed → a ≡ Passed
+pub then_left : (a b : Check) → (a then b) ≡ Ok tt → a ≡ Ok tt
 unfolding ◌then◌
-then_left Passed b e = refl
-then_left (Failed f) b e = e
+then_left (Ok tt) b e = refl
+then_left (Err f) b e = e
 
-pub then_right : (a b : Check) → (a then b) ≡ Passed → b ≡ Passed
+pub then_right : (a b : Check) → (a then b) ≡ Ok tt → b ≡ Ok tt
 unfolding ◌then◌
-then_right Passed b e = e
-then_right (Failed f) b e = cc
+then_right (Ok tt) b e = e
+then_right (Err f) b e = cc
 
-pub need_true : (b : Bool) (f : Fault) → need b f ≡ Passed → b ≡ true
+pub need_true : (b : Bool) (f : Fault) → need b f ≡ Ok tt → b ≡ true
 unfolding need
 need_true true f e = refl
 need_true false f e = cc
 
-pub decided_proved : (at d : ℕ) (v : Verdict) → decided at d v ≡ Passed → (n : ℕ) × (v ≡ Proved n)
+pub decided_proved : (at d : ℕ) (v : Verdict) → decided at d v ≡ Ok tt → (n : ℕ) × (v ≡ Proved n)
 decided_proved at d (Proved n) e = (n, refl)
 decided_proved at d (BadHint n) e = (0, cc)
 decided_proved at d UsedUp e = (0, cc)
 
-pub cleanly_clean : (c : List ℤ) (rs : List Held) → cleanly c rs ≡ Passed → clean_all c rs ≡ true
+pub cleanly_clean : (c : List ℤ) (rs : List Held) → cleanly c rs ≡ Ok tt → clean_all c rs ≡ true
 unfolding cleanly
 cleanly_clean c [] e = all_nil _
 cleanly_clean c (r ∷ rs) e = all_cons (clean_of c) _ _ (need_true _ _ (then_left _ _ e)) (cleanly_clean c rs (then_right _ _ e))
 
-pub satisfied_models : (α : Assignment) (hs : List Held) → satisfied α hs ≡ Passed → models α hs ≡ true
+pub satisfied_models : (α : Assignment) (hs : List Held) → satisfied α hs ≡ Ok tt → models α hs ≡ true
 unfolding satisfied
 satisfied_models α [] e = all_nil _
 satisfied_models α (h ∷ hs) e = all_cons (meets α) _ _ (need_true _ _ (then_left _ _ e)) (satisfied_models α hs (then_right _ _ e))
 
-pub assumed_assumes : (α : Assignment) (at : ℕ) (c : List ℤ) → assumed_true α at c ≡ Passed → Assumes α c
+pub assumed_assumes : (α : Assignment) (at : ℕ) (c : List ℤ) → assumed_true α at c ≡ Ok tt → Assumes α c
 unfolding assumed_true
 assumed_assumes α at [] e = all_nil _
 assumed_assumes α at (l ∷ c) e = all_cons _ _ _ (need_true _ _ (then_left _ _ e)) (assumed_assumes α (at + 1) c (then_right _ _ e))
@@ -70,7 +70,7 @@ seen_now : (seen : ℕ → Bool) (v : ℕ) → upd seen v true v ≡ true
 unfolding upd
 seen_now seen v = rw (eq-eqb v v refl)
 
-pub flawless : (vars : ℕ) (seen : ℕ → Bool) (at : ℕ) (c : List ℤ) → flaw vars seen at c ≡ Passed → Flawless vars seen c
+pub flawless : (vars : ℕ) (seen : ℕ → Bool) (at : ℕ) (c : List ℤ) → flaw vars seen at c ≡ Ok tt → Flawless vars seen c
 unfolding flaw distinct any_passes
 flawless vars seen at [] e = record { range = all_nil _; once = refl; fresh = λ v h. refl }
 flawless vars seen at (l ∷ c) e =
@@ -86,13 +86,13 @@ flawless vars seen at (l ∷ c) e =
     }
 
 -- a list of at most 256 literals that passes is a clause
-pub flaw_clause : (vars at : ℕ) (c : List ℤ) → length c ≤ 256 → flaw vars unseen at c ≡ Passed → is_clause vars c ≡ true
+pub flaw_clause : (vars at : ℕ) (c : List ℤ) → length c ≤ 256 → flaw vars unseen at c ≡ Ok tt → is_clause vars c ≡ true
 unfolding is_clause
 flaw_clause vars at c h e = let f = flawless vars unseen at c e in and_both (le-leb _ _ h) (and_both f.range f.once)
 
 -- and a clause passes: where no variable of the list was seen before, each literal does
 passes : (vars : ℕ) (seen : ℕ → Bool) (at : ℕ) (c : List ℤ) → all_pass (in_range vars) c ≡ true → distinct c ≡ true →
-    ((v : ℕ) → mentions c v ≡ true → seen v ≡ false) → flaw vars seen at c ≡ Passed
+    ((v : ℕ) → mentions c v ≡ true → seen v ≡ false) → flaw vars seen at c ≡ Ok tt
 unfolding flaw distinct any_passes upd need ◌then◌
 passes vars seen at [] r d n = refl
 passes vars seen at (l ∷ c) r d n =
@@ -100,12 +100,12 @@ passes vars seen at (l ∷ c) r d n =
     let ranged = all_head (in_range vars) l c r in
     let here : seen v ≡ false = n v (or_left (eqb v v) (mentions c v) (eq-eqb v v refl)) in
     let once : mentions c v ≡ false = not-true (and_left (not (mentions c v)) (distinct c) d) in
-    let rest : flaw vars (upd seen v true) (at + 1) c ≡ Passed = passes vars (upd seen v true) (at + 1) c (all_tail (in_range vars) l c r)
+    let rest : flaw vars (upd seen v true) (at + 1) c ≡ Ok tt = passes vars (upd seen v true) (at + 1) c (all_tail (in_range vars) l c r)
     (and_right (not (mentions c v)) (distinct c) d)
     (λ u m. by_cases (eqb v u) (λ e. let q = eqb-true v u e in true-false m (rw q at once)) (λ e. rw e (n u (or_right (eqb v u) (mentions c u) m)))) in
     rw (ranged, here, rest)
 
-pub clause_passes : (vars at : ℕ) (c : List ℤ) → is_clause vars c ≡ true → flaw vars unseen at c ≡ Passed
+pub clause_passes : (vars at : ℕ) (c : List ℤ) → is_clause vars c ≡ true → flaw vars unseen at c ≡ Ok tt
 unfolding is_clause
 clause_passes vars at c k =
     let t = and_right (leb (length c) 256) (all_pass (in_range vars) c && distinct c) k in

@@ -16,10 +16,9 @@ use Rattle.rules.specs.declared.Verdict.TheVariants.{Proved, BadHint, UsedUp}
 use Rattle.rules.specs.declared.Fault.{Fault}
 use Rattle.rules.specs.declared.Fault.TheVariants.{NoState, Malformed, Literal, Id, Unclean, NoWitness, Hint, Unproved, Group, Falsified, Assumption}
 use Rattle.rules.specs.declared.Fault.TheVariants.{NoEntry, NoWords}
-use Rattle.rules.specs.declared.Check.{Check}
-use Rattle.rules.specs.declared.Check.TheVariants.{Passed, Failed}
-use Rattle.rules.specs.declared.Answer.{Answer}
-use Rattle.rules.specs.declared.Answer.TheVariants.{Accepted, Refused}
+use Rattle.rules.specs.Results.{Check}
+use Rattle.std.specs.Prelude.{Ok, Err}
+use Rattle.rules.specs.Results.{Answer}
 
 -- the fault is that of code 1
 abbrev tables : Fault → Bool
@@ -38,15 +37,15 @@ tables NoEntry = false
 tables NoWords = false
 
 abbrev blames : Check → Bool
-blames Passed = false
-blames (Failed f) = tables f
+blames (Ok tt) = false
+blames (Err f) = tables f
 
 -- ---- checks in order
 
 both : (a b : Check) → blames a ≡ false → blames b ≡ false → blames (a then b) ≡ false
 unfolding ◌then◌
-both Passed b p q = q
-both (Failed f) b p q = p
+both (Ok tt) b p q = q
+both (Err f) b p q = p
 
 needs : (t : Bool) (f : Fault) → tables f ≡ false → blames (need t f) ≡ false
 unfolding need
@@ -126,17 +125,17 @@ checks s (UNSAT assumed hints) =
     both _ _ (ranges s.vars 2 assumed) (decides (2 + length assumed) 0 (proves (among (everything s)) (map neg_ℤ assumed) hints))
 
 abbrev answered : Answer → Bool
-answered (Accepted n) = false
-answered (Refused f) = tables f
+answered (Ok n) = false
+answered (Err f) = tables f
 
 settles : (s : State) (f : Frame) (k : Check) → blames k ≡ false → answered (settled s f k).answer ≡ false
-settles s f Passed b = refl
-settles s f (Failed e) b = b
+settles s f (Ok tt) b = refl
+settles s f (Err e) b = b
 
 parses : (s : State) (p : Parsed) → answered (outcome_parsed s p).answer ≡ false
 parses s malformed = refl
 parses s (framed f) = settles s f (check s f) (checks s f)
 
-pub never_no_state : (s : State) (ws : List ℤ) → (outcome s ws).answer ≡ Refused NoState → ⊥
+pub never_no_state : (s : State) (ws : List ℤ) → (outcome s ws).answer ≡ Err NoState → ⊥
 unfolding outcome
 never_no_state s ws e = true≢false (sym (ap answered e) ∙ parses s (parse ws))

@@ -13,7 +13,7 @@ use Rattle.rules.specs.Terms.{holds, is_clause, is_witness, null, is_id, is_plai
 use Rattle.rules.specs.Terms.{Terms}
 use Rattle.rules.specs.Frames.{Frame, ADD, LEARN, FORGET, PROMOTE, DROP, WEAKEN, RESTORE, SAT, UNSAT, without, place, plain, next}
 use Rattle.rules.specs.Answers.{check, check_open, opened}
-use Rattle.rules.specs.declared.Check.TheVariants.{Passed}
+use Rattle.std.specs.Prelude.{Ok, Err}
 use Rattle.rules.proofs.Lists.{by_cases, and_left, and_right, and_both, all_nil, all_cons, all_at, all_of, all_append, all_split}
 use Rattle.rules.proofs.Held.{fetch_all, without_all, place_all}
 use Rattle.rules.proofs.Checks.{then_left, then_right, need_true, flaw_clause}
@@ -259,7 +259,7 @@ module _ (s : State) (T : Terms s) where
 
 -- ---- every accepted frame
 
-pub terms_kept : (s : State) (f : Frame) → Shaped f → Terms s → check s f ≡ Passed → Terms (next s f)
+pub terms_kept : (s : State) (f : Frame) → Shaped f → Terms s → check s f ≡ Ok tt → Terms (next s f)
 unfolding check
 terms_kept s (ADD i c) sh T e =
     let n = then_right _ _ e in
@@ -283,7 +283,7 @@ terms_kept s (RESTORE i) sh T e = terms_restore s T i (need_true _ _ (then_left 
 terms_kept s (SAT assumed vs) sh T e = T
 terms_kept s (UNSAT assumed hints) sh T e = T
 
-pub begins_terms : (vars entries words : ℕ) → check_open vars entries words ≡ Passed → Terms (opened vars entries words)
+pub begins_terms : (vars entries words : ℕ) → check_open vars entries words ≡ Ok tt → Terms (opened vars entries words)
 unfolding check_open tally rising room
 begins_terms vars entries words e =
     record {

@@ -6,9 +6,8 @@ use lib.IntN.{ℤ}
 use Rattle.rules.specs.Terms.{State}
 use Rattle.rules.specs.Frames.{Frame, ADD, LEARN, FORGET, PROMOTE, DROP, WEAKEN, RESTORE, SAT, UNSAT, Parsed, malformed, framed, parse, next}
 use Rattle.rules.specs.Answers.{check, untouched, settled, outcome, outcome_parsed, altered}
-use Rattle.rules.specs.declared.Answer.TheVariants.{Refused}
-use Rattle.rules.specs.declared.Check.{Check}
-use Rattle.rules.specs.declared.Check.TheVariants.{Passed, Failed}
+use Rattle.std.specs.Prelude.{Ok, Err}
+use Rattle.rules.specs.Results.{Check}
 use Rattle.rules.specs.declared.Fault.{Fault}
 
 abbrev pub Lasts : State → State → Type 0
@@ -30,8 +29,8 @@ outcome_lasts s ws = parsed (parse ws)
     after (UNSAT assumed hints) = (refl, refl)
 
     passed : (f : Frame) (c : Check) → Lasts s (settled s f c).state
-    passed f Passed = after f
-    passed f (Failed e) = (refl, refl)
+    passed f (Ok tt) = after f
+    passed f (Err e) = (refl, refl)
 
     parsed : (p : Parsed) → Lasts s (outcome_parsed s p).state
     parsed malformed = (refl, refl)
@@ -43,30 +42,30 @@ unfolding outcome
 unaltered_state s ws e = parsed (parse ws) e
   where
     passed : (f : Frame) (c : Check) → altered (framed f) (settled s f c).answer ≡ false → (settled s f c).state ≡ s
-    passed f (Failed x) n = refl
-    passed (ADD i c) Passed n = absurd (true≢false n)
-    passed (LEARN i c hints) Passed n = absurd (true≢false n)
-    passed (FORGET i) Passed n = absurd (true≢false n)
-    passed (PROMOTE i) Passed n = absurd (true≢false n)
-    passed (DROP i hints) Passed n = absurd (true≢false n)
-    passed (WEAKEN i w groups) Passed n = absurd (true≢false n)
-    passed (RESTORE i) Passed n = absurd (true≢false n)
-    passed (SAT assumed vs) Passed n = refl
-    passed (UNSAT assumed hints) Passed n = refl
+    passed f (Err x) n = refl
+    passed (ADD i c) (Ok tt) n = absurd (true≢false n)
+    passed (LEARN i c hints) (Ok tt) n = absurd (true≢false n)
+    passed (FORGET i) (Ok tt) n = absurd (true≢false n)
+    passed (PROMOTE i) (Ok tt) n = absurd (true≢false n)
+    passed (DROP i hints) (Ok tt) n = absurd (true≢false n)
+    passed (WEAKEN i w groups) (Ok tt) n = absurd (true≢false n)
+    passed (RESTORE i) (Ok tt) n = absurd (true≢false n)
+    passed (SAT assumed vs) (Ok tt) n = refl
+    passed (UNSAT assumed hints) (Ok tt) n = refl
 
     parsed : (p : Parsed) → altered p (outcome_parsed s p).answer ≡ false → (outcome_parsed s p).state ≡ s
     parsed malformed n = refl
     parsed (framed f) n = passed f (check s f) n
 
 -- "only an accepted SAT writes the model buffer"
-pub refused_hands : (s : State) (ws : List ℤ) (x : Fault) → (outcome s ws).answer ≡ Refused x → (outcome s ws).handed ≡ untouched
+pub refused_hands : (s : State) (ws : List ℤ) (x : Fault) → (outcome s ws).answer ≡ Err x → (outcome s ws).handed ≡ untouched
 unfolding outcome
 refused_hands s ws x e = parsed (parse ws) e
   where
-    passed : (f : Frame) (c : Check) → (settled s f c).answer ≡ Refused x → (settled s f c).handed ≡ untouched
-    passed f Passed q = cc
-    passed f (Failed y) q = refl
+    passed : (f : Frame) (c : Check) → (settled s f c).answer ≡ Err x → (settled s f c).handed ≡ untouched
+    passed f (Ok tt) q = cc
+    passed f (Err y) q = refl
 
-    parsed : (p : Parsed) → (outcome_parsed s p).answer ≡ Refused x → (outcome_parsed s p).handed ≡ untouched
+    parsed : (p : Parsed) → (outcome_parsed s p).answer ≡ Err x → (outcome_parsed s p).handed ≡ untouched
     parsed malformed q = refl
     parsed (framed f) q = passed f (check s f) q

@@ -12,9 +12,8 @@ use Rattle.rules.specs.Answers.{check, hands, settled, outcome_parsed, outcome, 
 use Rattle.rules.specs.Histories.{History, added_by, step, Reached, models, Models, Assumes, Unopposed, Accepts, Answered, SameLiterals, Within}
 use Rattle.rules.specs.Histories.{SameClauses}
 use Rattle.rules.specs.declared.Fault.{Fault}
-use Rattle.rules.specs.declared.Check.{Check}
-use Rattle.rules.specs.declared.Check.TheVariants.{Passed, Failed}
-use Rattle.rules.specs.declared.Answer.TheVariants.{Accepted, Refused}
+use Rattle.rules.specs.Results.{Check}
+use Rattle.std.specs.Prelude.{Ok, Err}
 use Rattle.rules.proofs.Lists.{all_at, all_of, all_append, all_head, all_tail, any_in, any_find}
 use Rattle.rules.proofs.Literals.{in_holds, holds_in, opposite_false}
 use Rattle.rules.proofs.Held.{meets, mend_keeps, mend_other, mend_models}
@@ -39,12 +38,12 @@ mend_to_models h r = (sound h r).mends
 
 -- ---- accepted frames
 
-settled_passed : (s : State) (f : Frame) (k : Check) (n : ℕ) → (settled s f k).answer ≡ Accepted n → k ≡ Passed
-settled_passed s f Passed n e = refl
-settled_passed s f (Failed x) n e = cc
+settled_passed : (s : State) (f : Frame) (k : Check) (n : ℕ) → (settled s f k).answer ≡ Ok n → k ≡ Ok tt
+settled_passed s f (Ok tt) n e = refl
+settled_passed s f (Err x) n e = cc
 
 module _ (s : State) (ws : List ℤ) (f : Frame) (a : Accepts s ws f) where
-  passed : check s f ≡ Passed
+  passed : check s f ≡ Ok tt
   unfolding outcome
   passed = let p = a.parsed in settled_passed s f (check s f) a.changed (rw p at a.accepted)
 
@@ -127,16 +126,16 @@ never_both h g r q same assumed denied literals ws vs a us hints b =
 
 -- ---- refusals
 
-pub refused : (h : History) (ws : List ℤ) (f : Fault) → (outcome h.state ws).answer ≡ Refused f → step h ws ≡ h
+pub refused : (h : History) (ws : List ℤ) (f : Fault) → (outcome h.state ws).answer ≡ Err f → step h ws ≡ h
 unfolding outcome step
 refused h ws f e = by_parse (parse ws) e
   where
-    by_check : (g : Frame) (k : Check) → (settled h.state g k).answer ≡ Refused f →
+    by_check : (g : Frame) (k : Check) → (settled h.state g k).answer ≡ Err f →
         record { state = (settled h.state g k).state; added = added_by (settled h.state g k).answer (framed g) h.added } ≡ h
-    by_check g Passed q = cc
-    by_check g (Failed x) q = refl
+    by_check g (Ok tt) q = cc
+    by_check g (Err x) q = refl
 
-    by_parse : (p : Parsed) → (outcome_parsed h.state p).answer ≡ Refused f →
+    by_parse : (p : Parsed) → (outcome_parsed h.state p).answer ≡ Err f →
         record { state = (outcome_parsed h.state p).state; added = added_by (outcome_parsed h.state p).answer p h.added } ≡ h
     by_parse malformed q = refl
     by_parse (framed g) q = by_check g (check h.state g) q

@@ -13,7 +13,7 @@ use Rattle.rules.specs.Lists.{any_passes, all_pass}
 use Rattle.rules.specs.Terms.{same, is_variable, in_range, mentions, distinct, holds, is_clause, is_witness, is_record, Assignment, Held, State}
 use Rattle.rules.specs.Frames.{SAT, number, offered, mend}
 use Rattle.rules.specs.Answers.{ranged, ascending, is_above, check}
-use Rattle.rules.specs.declared.Check.TheVariants.{Passed}
+use Rattle.std.specs.Prelude.{Ok, Err}
 use Rattle.rules.proofs.Lists.{by_cases, and_left, and_right, and_both, true-false, any_find, all_at, all_head, all_tail}
 use Rattle.rules.proofs.Checks.{then_left, then_right, need_true}
 use Rattle.rules.proofs.Held.{mend_other}
@@ -34,7 +34,7 @@ not_same : (vars : ℕ) (x : ℤ) (v : ℕ) → in_range vars x ≡ true → is_
 not_same vars (pos n) v r f = by_cases (eqb n v) (λ e. true-false (variable_of vars (pos n) r) (ap (is_variable vars) (eqb-true n v e) ∙ f)) (λ e. e)
 not_same vars (negsuc n) v r f = refl
 
-offered_none : (vars last at : ℕ) (vs : List ℤ) → ascending vars last at vs ≡ Passed → (v : ℕ) → is_variable vars v ≡ false → offered vs v ≡ false
+offered_none : (vars last at : ℕ) (vs : List ℤ) → ascending vars last at vs ≡ Ok tt → (v : ℕ) → is_variable vars v ≡ false → offered vs v ≡ false
 unfolding ascending any_passes
 offered_none vars last at [] e v f = refl
 offered_none vars last at (x ∷ vs) e v f =
@@ -75,7 +75,7 @@ module _ (s : State) (records : all_pass (is_record s.vars) s.stack ≡ true) wh
   pub past_vars : (α : Assignment) (v : ℕ) → s.vars < v → mend α s.stack v ≡ α v
   past_vars α v h = walk_leaves α v (past_none s.vars v h)
 
-  pub handed_none : (assumed vs : List ℤ) → check s (SAT assumed vs) ≡ Passed → (v : ℕ) → is_variable s.vars v ≡ false →
+  pub handed_none : (assumed vs : List ℤ) → check s (SAT assumed vs) ≡ Ok tt → (v : ℕ) → is_variable s.vars v ≡ false →
       mend (offered vs) s.stack v ≡ false
   unfolding check
   handed_none assumed vs e v f =

@@ -6,8 +6,8 @@ use lib.IntN.{ℤ}
 use Rattle.rules.specs.Frames.{Frame, Parsed, malformed, framed, parse, next}
 use Rattle.rules.specs.Answers.{check, settled, outcome_parsed, outcome, check_open, opened}
 use Rattle.rules.specs.Histories.{History, adds, added_by, step, steps, Reached}
-use Rattle.rules.specs.declared.Check.{Check}
-use Rattle.rules.specs.declared.Check.TheVariants.{Passed, Failed}
+use Rattle.rules.specs.Results.{Check}
+use Rattle.std.specs.Prelude.{Ok, Err}
 
 -- the history at an opening, and after an accepted frame
 abbrev pub begun : ℕ → ℕ → ℕ → History
@@ -18,8 +18,8 @@ moved h f = record { state = next h.state f; added = adds f h.added }
 
 module _
     (P : History → Type 0)
-    (begins : (vars entries words : ℕ) → check_open vars entries words ≡ Passed → P (begun vars entries words))
-    (keeps : (h : History) (ws : List ℤ) (f : Frame) → parse ws ≡ framed f → check h.state f ≡ Passed → P h → P (moved h f))
+    (begins : (vars entries words : ℕ) → check_open vars entries words ≡ Ok tt → P (begun vars entries words))
+    (keeps : (h : History) (ws : List ℤ) (f : Frame) → parse ws ≡ framed f → check h.state f ≡ Ok tt → P h → P (moved h f))
   where
     one_step : (h : History) (ws : List ℤ) → P h → P (step h ws)
     unfolding step outcome
@@ -27,8 +27,8 @@ module _
       where
         by_check : (f : Frame) (k : Check) → parse ws ≡ framed f → check h.state f ≡ k →
             P (record { state = (settled h.state f k).state; added = added_by (settled h.state f k).answer (framed f) h.added })
-        by_check f Passed q e = keeps h ws f q e p
-        by_check f (Failed x) q e = p
+        by_check f (Ok tt) q e = keeps h ws f q e p
+        by_check f (Err x) q e = p
 
         by_parse : (g : Parsed) → parse ws ≡ g →
             P (record { state = (outcome_parsed h.state g).state; added = added_by (outcome_parsed h.state g).answer g h.added })

@@ -14,7 +14,7 @@ use Rattle.rules.specs.Frames.{Frame, ADD, LEARN, FORGET, PROMOTE, DROP, WEAKEN,
 use Rattle.rules.specs.Frames.{mend}
 use Rattle.rules.specs.Answers.{unseen, decided, groups, check}
 use Rattle.rules.specs.Histories.{History, models, Models}
-use Rattle.rules.specs.declared.Check.TheVariants.{Passed}
+use Rattle.std.specs.Prelude.{Ok, Err}
 use Rattle.rules.proofs.Lists.{by_cases, true-false, not-true, any_in, any_find, any_none, all_at, all_of, all_nil, all_cons, all_head, all_tail}
 use Rattle.rules.proofs.Lists.{all_append, only_in, only_out}
 use Rattle.rules.proofs.Literals.{in_holds, make_keeps, make_true, distinct_apart}
@@ -25,7 +25,7 @@ use Rattle.rules.proofs.Checks.{then_left, then_right, need_true, decided_proved
 
 -- ---- a check by hints that passed
 
-pub decided_sound : (α : Assignment) (hs : List Held) (c hints : List ℤ) (at d : ℕ) → models α hs ≡ true → decided at d (proves (among hs) c hints) ≡ Passed →
+pub decided_sound : (α : Assignment) (hs : List Held) (c hints : List ℤ) (at d : ℕ) → models α hs ≡ true → decided at d (proves (among hs) c hints) ≡ Ok tt →
     sat α c ≡ true
 decided_sound α hs c hints at d m e =
     let v = decided_proved at d (proves (among hs) c hints) e in
@@ -35,7 +35,7 @@ decided_sound α hs c hints at d m e =
 
 -- every D that needs a group has its target proved
 module _ (α : Assignment) (others : List Held) (c : List ℤ) (W : Literals) (ok : models α others ≡ true) where
-  groups_sound : (ds : List Held) (at : ℕ) (ws : List ℤ) → groups (among others) c W ds at ws ≡ Passed → all_pass (λ D. sat α (target c W D.lits)) ds ≡ true
+  groups_sound : (ds : List Held) (at : ℕ) (ws : List ℤ) → groups (among others) c W ds at ws ≡ Ok tt → all_pass (λ D. sat α (target c W D.lits)) ds ≡ true
   unfolding groups
   groups_sound [] at ws e = all_nil _
   groups_sound (D ∷ ds) at [] e = cc
@@ -59,7 +59,7 @@ module _ (vars : ℕ) (α : Assignment) (w : List ℤ) (F : Flawless vars unseen
       let m = only_out (λ l. not (opposes (holds w) l)) c r.1 in
       any_in (lit (make α w)) m.0 (make_keeps w α r.0 (not-true m.1) r.2)
 
-  module _ (c : List ℤ) (others : List Held) (at : ℕ) (ws : List ℤ) (e : groups (among others) c (holds w) (only (needs_group (holds w)) others) at ws ≡ Passed)
+  module _ (c : List ℤ) (others : List Held) (at : ℕ) (ws : List ℤ) (e : groups (among others) c (holds w) (only (needs_group (holds w)) others) at ws ≡ Ok tt)
       (ok : models α others ≡ true) (f : sat α c ≡ false) where
     -- D, which holds no literal of w, is true by a literal whose opposite is not in w: by its group, or because it holds no opposite of w at all
     less : (D : Held) → Memᴰ D others → any_passes (holds w) D.lits ≡ false → sat α (only (λ l. not (opposes (holds w) l)) D.lits) ≡ true
@@ -90,7 +90,7 @@ pub record Sound (h : History) : Type 0 where
 pub held_follow : {h : History} → Sound h → (α : Assignment) → Models α h.added → models α (everything h.state) ≡ true
 held_follow S α m = all_append (meets α) _ _ (S.irredundant α m) (all_append (meets α) _ _ (S.learned α m) (S.stacked α m))
 
-pub keeps_sound : (h : History) (f : Frame) → Sound h → check h.state f ≡ Passed → Sound (moved h f)
+pub keeps_sound : (h : History) (f : Frame) → Sound h → check h.state f ≡ Ok tt → Sound (moved h f)
 unfolding check mend
 keeps_sound h (ADD i c) S e =
     let k = cleanly_clean c h.state.stack (then_left _ _ (then_right _ _ (then_right _ _ e))) in

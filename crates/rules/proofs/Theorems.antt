@@ -13,7 +13,7 @@ use Rattle.rules.specs.Answers.{outcome, mended}
 use Rattle.rules.specs.Histories.{History, step, Reached, models, Models, Assumes, Unopposed, Accepts, Answered, SameLiterals, SameClauses}
 use Rattle.rules.specs.declared.Fault.{Fault}
 use Rattle.rules.specs.declared.Verdict.TheVariants.{Proved}
-use Rattle.rules.specs.declared.Answer.TheVariants.{Refused}
+use Rattle.std.specs.Prelude.{Ok, Err}
 use Rattle.rules.proofs.Propagation.{proves_sound}
 use Rattle.rules.proofs.Meaning as shown
 
@@ -54,7 +54,7 @@ pub order_free : (h g : History) → Reached h → Reached g → SameClauses h.a
 order_free = shown.never_both
 
 -- 7. A refused frame leaves everything, the highest id too; and an accepted one keeps the terms, so every history has them.
-pub refused_leaves : (h : History) (ws : List ℤ) (f : Fault) → (outcome h.state ws).answer ≡ Refused f → step h ws ≡ h
+pub refused_leaves : (h : History) (ws : List ℤ) (f : Fault) → (outcome h.state ws).answer ≡ Err f → step h ws ≡ h
 refused_leaves = shown.refused
 
 pub terms_are_kept : (h : History) → Reached h → Terms h.state

@@ -11,45 +11,44 @@ use Rattle.rules.specs.declared.Verdict.TheVariants.{Proved, BadHint, UsedUp}
 use Rattle.rules.specs.declared.Fault.{Fault}
 use Rattle.rules.specs.declared.Fault.TheVariants.{NoState, Malformed, Literal, Id, Unclean, NoWitness, Hint, Unproved, Group, Falsified, Assumption}
 use Rattle.rules.specs.declared.Fault.TheVariants.{NoEntry, NoWords}
-use Rattle.rules.specs.declared.Check.{Check}
-use Rattle.rules.specs.declared.Check.TheVariants.{Passed, Failed}
-use Rattle.rules.specs.declared.Answer.{Answer}
-use Rattle.rules.specs.declared.Answer.TheVariants.{Accepted, Refused}
+use Rattle.rules.specs.Results.{Check}
+use Rattle.std.specs.Prelude.{Ok, Err}
+use Rattle.rules.specs.Results.{Answer}
 
 -- ---- "Each answer is a code and a detail."
 
 abbrev pub numbers : Answer → ℕ × ℕ
-numbers (Accepted changed) = (0, changed)
-numbers (Refused NoState) = (1, 0)
-numbers (Refused Malformed) = (2, 0)
-numbers (Refused (Literal index)) = (3, index)
-numbers (Refused (Id i)) = (4, i)
-numbers (Refused (Unclean i)) = (5, i)
-numbers (Refused NoWitness) = (6, 0)
-numbers (Refused (Hint index)) = (7, index)
-numbers (Refused (Unproved i)) = (8, i)
-numbers (Refused (Group index)) = (9, index)
-numbers (Refused (Falsified i)) = (10, i)
-numbers (Refused (Assumption index)) = (11, index)
-numbers (Refused NoEntry) = (12, 0)
-numbers (Refused NoWords) = (13, 0)
+numbers (Ok changed) = (0, changed)
+numbers (Err NoState) = (1, 0)
+numbers (Err Malformed) = (2, 0)
+numbers (Err (Literal index)) = (3, index)
+numbers (Err (Id i)) = (4, i)
+numbers (Err (Unclean i)) = (5, i)
+numbers (Err NoWitness) = (6, 0)
+numbers (Err (Hint index)) = (7, index)
+numbers (Err (Unproved i)) = (8, i)
+numbers (Err (Group index)) = (9, index)
+numbers (Err (Falsified i)) = (10, i)
+numbers (Err (Assumption index)) = (11, index)
+numbers (Err NoEntry) = (12, 0)
+numbers (Err NoWords) = (13, 0)
 
 -- ---- checks in order: the first that fails decides
 
 infixr 20 ◌then◌
 unfoldable pub ◌then◌ : Check → Check → Check
-Passed then b = b
-Failed f then b = Failed f
+Ok tt then b = b
+Err f then b = Err f
 
 unfoldable pub need : Bool → Fault → Check
-need true f = Passed
-need false f = Failed f
+need true f = Ok tt
+need false f = Err f
 
 -- ---- 3: "index of first such word"; at is the index of the list's first word
 
 -- "literal zero or past V, variable repeated in clause or witness"; seen are the variables before
 unfoldable pub flaw : ℕ → (ℕ → Bool) → ℕ → List ℤ → Check
-flaw vars seen at [] = Passed
+flaw vars seen at [] = Ok tt
 flaw vars seen at (l ∷ c) =
     need (in_range vars l && not (seen (nat_abs l))) (Literal at) then
     flaw vars (upd seen (nat_abs l) true) (at + 1) c
@@ -59,7 +58,7 @@ unseen v = false
 
 -- "literal zero or past V": "Assumptions may repeat or oppose each other."
 unfoldable pub ranged : ℕ → ℕ → List ℤ → Check
-ranged vars at [] = Passed
+ranged vars at [] = Ok tt
 ranged vars at (l ∷ c) = need (in_range vars l) (Literal at) then ranged vars (at + 1) c
 
 abbrev pub is_above : ℕ → ℤ → Bool
@@ -68,7 +67,7 @@ is_above last (negsuc n) = false
 
 -- "true variables not in 1 to V and rising"
 unfoldable pub ascending : ℕ → ℕ → ℕ → List ℤ → Check
-ascending vars last at [] = Passed
+ascending vars last at [] = Ok tt
 ascending vars last at (x ∷ vs) = need (in_range vars x && is_above last x) (Literal at) then ascending vars (number x) (at + 1) vs
 
 -- ---- 4: "ADD, LEARN: id not new; else clause not in the place its row names"
@@ -82,15 +81,15 @@ held_in hs i = need (has hs i) (Id i)
 -- ---- 5: "id of the topmost offending record"
 
 unfoldable pub cleanly : List ℤ → List Held → Check
-cleanly c [] = Passed
+cleanly c [] = Ok tt
 cleanly c (r ∷ rs) = need (clean c r.witness) (Unclean r.id) then cleanly c rs
 
 -- ---- 7 and 8: at is the index of the first hint, d the detail of 8
 
 abbrev pub decided : ℕ → ℕ → Verdict → Check
-decided at d (Proved n) = Passed
-decided at d (BadHint n) = Failed (Hint (at + n))
-decided at d UsedUp = Failed (Unproved d)
+decided at d (Proved n) = Ok tt
+decided at d (BadHint n) = Err (Hint (at + n))
+decided at d UsedUp = Err (Unproved d)
 
 -- ---- 9: "a group missing, of the wrong id, with k missing, negative or past the end, or words left over"
 
@@ -100,10 +99,10 @@ fits (negsuc n) left = false
 
 -- "Each needs one group: D's id, k, then k hints."
 unfoldable pub groups : Allowed → List ℤ → Literals → List Held → ℕ → List ℤ → Check
-groups A c W [] at [] = Passed
-groups A c W [] at (x ∷ ws) = Failed (Group at)
-groups A c W (D ∷ ds) at [] = Failed (Group at)
-groups A c W (D ∷ ds) at (x ∷ []) = need (same x (pos D.id)) (Group at) then Failed (Group (at + 1))
+groups A c W [] at [] = Ok tt
+groups A c W [] at (x ∷ ws) = Err (Group at)
+groups A c W (D ∷ ds) at [] = Err (Group at)
+groups A c W (D ∷ ds) at (x ∷ []) = need (same x (pos D.id)) (Group at) then Err (Group (at + 1))
 groups A c W (D ∷ ds) at (x ∷ k ∷ ws) =
     need (same x (pos D.id)) (Group at) then
     need (fits k (length ws)) (Group (at + 1)) then
@@ -114,12 +113,12 @@ groups A c W (D ∷ ds) at (x ∷ k ∷ ws) =
 
 -- "the least such id"
 unfoldable pub satisfied : Assignment → List Held → Check
-satisfied α [] = Passed
+satisfied α [] = Ok tt
 satisfied α (h ∷ hs) = need (sat α h.lits) (Falsified h.id) then satisfied α hs
 
 -- "word index of the first such"
 unfoldable pub assumed_true : Assignment → ℕ → List ℤ → Check
-assumed_true α at [] = Passed
+assumed_true α at [] = Ok tt
 assumed_true α at (l ∷ c) = need (lit α l) (Assumption at) then assumed_true α (at + 1) c
 
 -- ---- 12 and 13
@@ -234,11 +233,11 @@ pub record Outcome : Type 0 where
 
 -- "Every code but 0 leaves all tables, V, the highest id and the model buffer as found."
 abbrev pub settled : State → Frame → Check → Outcome
-settled s f Passed = record { answer = Accepted (changed s.vars (hands s f)); state = next s f; handed = hands s f }
-settled s f (Failed e) = record { answer = Refused e; state = s; handed = untouched }
+settled s f (Ok tt) = record { answer = Ok (changed s.vars (hands s f)); state = next s f; handed = hands s f }
+settled s f (Err e) = record { answer = Err e; state = s; handed = untouched }
 
 abbrev pub outcome_parsed : State → Parsed → Outcome
-outcome_parsed s malformed = record { answer = Refused Malformed; state = s; handed = untouched }
+outcome_parsed s malformed = record { answer = Err Malformed; state = s; handed = untouched }
 outcome_parsed s (framed f) = settled s f (check s f)
 
 unfoldable pub outcome : State → List ℤ → Outcome
@@ -265,8 +264,8 @@ is_change (framed f) = alters f
 
 -- an accepted change
 abbrev pub altered : Parsed → Answer → Bool
-altered p (Accepted n) = is_change p
-altered p (Refused e) = false
+altered p (Ok n) = is_change p
+altered p (Err e) = false
 
 -- ---- opening
 

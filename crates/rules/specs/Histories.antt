@@ -5,9 +5,8 @@ use Rattle.rules.specs.Lists.{any_passes, all_pass}
 use Rattle.rules.specs.Terms.{is_variable, Assignment, lit, sat, holds, mentions, clean, Held, State, everything}
 use Rattle.rules.specs.Frames.{Frame, ADD, LEARN, FORGET, PROMOTE, DROP, WEAKEN, RESTORE, SAT, UNSAT, Parsed, malformed, framed, parse, mend}
 use Rattle.rules.specs.Answers.{outcome, check_open, opened}
-use Rattle.rules.specs.declared.Check.TheVariants.{Passed}
-use Rattle.rules.specs.declared.Answer.{Answer}
-use Rattle.rules.specs.declared.Answer.TheVariants.{Accepted, Refused}
+use Rattle.std.specs.Prelude.{Ok, Err}
+use Rattle.rules.specs.Results.{Answer}
 
 -- ---- runs
 
@@ -29,9 +28,9 @@ adds (SAT assumed vs) cs = cs
 adds (UNSAT assumed hints) cs = cs
 
 abbrev pub added_by : Answer → Parsed → List (List ℤ) → List (List ℤ)
-added_by (Refused e) p cs = cs
-added_by (Accepted n) malformed cs = cs
-added_by (Accepted n) (framed f) cs = adds f cs
+added_by (Err e) p cs = cs
+added_by (Ok n) malformed cs = cs
+added_by (Ok n) (framed f) cs = adds f cs
 
 -- the history with one frame more
 unfoldable pub step : History → List ℤ → History
@@ -46,7 +45,7 @@ pub record Reached (h : History) : Type 0 where
   pub vars : ℕ
   pub entries : ℕ
   pub words : ℕ
-  pub accepted : check_open vars entries words ≡ Passed
+  pub accepted : check_open vars entries words ≡ Ok tt
   pub frames : List (List ℤ)
   pub by_frames : h ≡ steps (record { state = opened vars entries words; added = [] }) frames
 
@@ -77,7 +76,7 @@ Unopposed s assumed = all_pass (λ r. clean assumed r.witness) s.stack ≡ true
 pub record Accepts (s : State) (ws : List ℤ) (f : Frame) : Type 0 where
   pub parsed : parse ws ≡ framed f
   pub changed : ℕ
-  pub accepted : (outcome s ws).answer ≡ Accepted changed
+  pub accepted : (outcome s ws).answer ≡ Ok changed
 
 -- what β, handed out for the offered α, is to be
 pub record Answered (h : History) (assumed : List ℤ) (α β : Assignment) : Type 0 where

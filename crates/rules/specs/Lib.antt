@@ -3,6 +3,7 @@ pub mod Lists
 pub mod Terms
 pub mod Propagation
 pub mod Frames
+pub mod Results
 pub mod Answers
 pub mod Histories
 pub mod Outcomes

@@ -27,16 +27,8 @@ pub enum Fault {
     NoWords,
 }
 
-// What the checks of a step come to.
-#[derive(Clone, Copy)]
-pub enum Check {
-    Passed,
-    Failed(Fault),
-}
+// What the checks of a step come to: the first fault, or none.
+pub type Check = Result<(), Fault>;
 
 // The answer to a step: accepted, with the number of variables that a SAT changed; or refused.
-#[derive(Clone, Copy)]
-pub enum Answer {
-    Accepted(usize),
-    Refused(Fault),
-}
+pub type Answer = Result<usize, Fault>;

@@ -11,8 +11,8 @@ pub fn code(answer: Answer) -> u32
     ensures { result ≡ (numbers answer).0 }
 {
     match answer {
-        Answer::Accepted(_) => 0,
-        Answer::Refused(fault) => match fault {
+        Ok(_) => 0,
+        Err(fault) => match fault {
             Fault::NoState => 1,
             Fault::Malformed => 2,
             Fault::Literal(_) => 3,
@@ -35,8 +35,8 @@ pub fn detail(answer: Answer) -> usize
     ensures { result ≡ (numbers answer).1 }
 {
     match answer {
-        Answer::Accepted(changed) => changed,
-        Answer::Refused(fault) => match fault {
+        Ok(changed) => changed,
+        Err(fault) => match fault {
             Fault::NoState => 0,
             Fault::Malformed => 0,
             Fault::Literal(index) => index,

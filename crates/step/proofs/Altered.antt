@@ -3,8 +3,8 @@ use mathlib.Core.Path.{◌≡◌, refl, sym, ap, ◌∙◌}
 use mathlib.Core.Bool.{false, true≢false}
 use Rattle.rules.specs.Frames.{ADD, LEARN, FORGET, PROMOTE, DROP, WEAKEN, RESTORE, SAT, UNSAT, Parsed, malformed, framed}
 use Rattle.rules.specs.Answers.{is_change, altered}
-use Rattle.rules.specs.declared.Answer.{Answer}
-use Rattle.rules.specs.declared.Answer.TheVariants.{Accepted, Refused}
+use Rattle.rules.specs.Results.{Answer}
+use Rattle.std.specs.Prelude.{Ok, Err}
 use Rattle.step_outcome.specs.Told.{unless_refused, is_tables}
 use Rattle.step_outcome.specs.declared.Written.TheVariants.{Tables}
 use Rattle.step.specs.Steps.{writes}
@@ -22,8 +22,8 @@ writes_change (framed (SAT assumed vs)) = refl
 writes_change (framed (UNSAT assumed hints)) = refl
 
 pub told_altered : (p : Parsed) (a : Answer) → is_tables (unless_refused (writes p) a) ≡ altered p a
-told_altered p (Accepted n) = writes_change p
-told_altered p (Refused e) = refl
+told_altered p (Ok n) = writes_change p
+told_altered p (Err e) = refl
 
 pub unaltered : (p : Parsed) (a : Answer) → altered p a ≡ false → unless_refused (writes p) a ≡ Tables → ⊥
 unaltered p a n e = true≢false (ap is_tables (sym e) ∙ told_altered p a ∙ n)

@@ -9,13 +9,13 @@ use lib.Seq.{take_all}
 use Rattle.rules.specs.Terms.{State}
 use Rattle.rules.specs.Frames.{Frame, malformed, framed, parse, next}
 use Rattle.rules.specs.Answers.{check, untouched, hands, settled, outcome}
+use Rattle.rules.specs.declared.Fault.{Fault}
 use Rattle.rules.specs.declared.Fault.TheVariants.{Malformed}
-use Rattle.rules.specs.declared.Check.{Check}
-use Rattle.rules.specs.declared.Check.TheVariants.{Passed, Failed}
-use Rattle.rules.specs.declared.Answer.{Answer}
+use Rattle.std.specs.Prelude.{Result, Ok, Err}
+use Rattle.rules.specs.Results.{Check, Answer}
 use Rattle.table.specs.Spelled.{Row, spelled, Fit, Same}
 use Rattle.table.specs.declared.Table.{Table}
-use Rattle.step_outcome.specs.Told.{answer_of, refused_with, unless_refused, answered_with}
+use Rattle.step_outcome.specs.Told.{answer_of, refused_with, changed_with, unless_refused, answered_with}
 use Rattle.step_changes.specs.Applied.{Applied}
 use Rattle.step_answers.specs.Answered.{AnswerOf}
 use Rattle.step_outcome.specs.declared.Stepped.{Stepped}
@@ -52,8 +52,8 @@ module _ (a : ℕ) (ws : List ℤ) where
 
 -- SAT and UNSAT keep the state, whatever their check says
 kept : (s : State) (f : Frame) → next s f ≡ s → (k : Check) → (settled s f k).state ≡ s
-kept s f q Passed = q
-kept s f q (Failed e) = refl
+kept s f q (Ok tt) = q
+kept s f q (Err e) = refl
 
 module _ {t : Table} {rows : List Row} {pool : List ℤ} {stack : List ℕ} (fit : Fit t rows pool stack) where
   abbrev st : State
@@ -68,8 +68,8 @@ module _ {t : Table} {rows : List Row} {pool : List ℤ} {stack : List ℕ} (fit
   answered_only {f} {r} {model} h e = by_check (check st f) refl
     where
       by_check : (k : Check) → check st f ≡ k → AnswerOf t rows pool stack f r model model
-      by_check Passed q = record { answered = rw (q, h) (e ∙ ap answer_of q); handed = rw (q, h) refl }
-      by_check (Failed g) q = record { answered = rw q (e ∙ ap answer_of q); handed = rw q refl }
+      by_check (Ok tt) q = record { answered = rw (q, h) (e ∙ ap answer_of q); handed = rw (q, h) refl }
+      by_check (Err g) q = record { answered = rw q (e ∙ ap answer_of q); handed = rw q refl }
 
   module _ {ws : List ℤ} {model : List ℕ} where
     pub no_frame : parse ws ≡ malformed → Steps t rows pool stack ws (refused_with Malformed t) rows pool stack model model
@@ -78,34 +78,29 @@ module _ {t : Table} {rows : List Row} {pool : List ℤ} {stack : List ℕ} (fit
 
     -- a frame that writes and hands nothing out
     pub applied : {f : Frame} → parse ws ≡ framed f → hands st f ≡ untouched → writes (framed f) ≡ Tables →
-        {r : Stepped} {rows' : List Row} {pool' : List ℤ} {stack' : List ℕ} →
-        Applied t rows pool stack f r rows' pool' stack' → Steps t rows pool stack ws r rows' pool' stack' model model
+        (r : Result Table Fault) {rows' : List Row} {pool' : List ℤ} {stack' : List ℕ} →
+        Applied t rows pool stack f r rows' pool' stack' → Steps t rows pool stack ws (changed_with r t) rows' pool' stack' model model
     unfolding outcome
-    applied {f} p h n {r} {rows'} {pool'} {stack'} a = by_check (check st f) refl
-      where
-        by_check : (k : Check) → check st f ≡ k → Steps t rows pool stack ws r rows' pool' stack' model model
-        by_check Passed q = record {
-          answered = rw (p, q, h) (a.answered ∙ ap answer_of q);
-          fit = (a.moved q).fit;
-          state = rw (p, q) (a.moved q).state;
-          handed = rw (p, q, h) refl;
-          told = rw (p, n) a.told;
-          left = λ d. absurd (d (a.told ∙ ap (unless_refused Tables) (a.answered ∙ ap answer_of q)));
+    applied p h n (Ok t') (q, m) = record {
+      answered = rw (p, q, h) refl;
+      fit = m.fit;
+      state = rw (p, q) m.state;
+      handed = rw (p, q, h) refl;
+      told = rw (p, n) refl;
+      left = λ d. absurd (d refl);
+    }
+    applied p h n (Err e) (q, w) =
+        let wr = w.same_rows in
+        let wp = w.same_pool in
+        let wk = w.same_stack in
+        record {
+          answered = rw (p, q) refl;
+          fit = rw (wr, wp, wk) fit;
+          state = rw (p, q, wr, wp, wk);
+          handed = rw (p, q) refl;
+          told = refl;
+          left = λ d. w;
         }
-        by_check (Failed e) q =
-            let w = a.left e q in
-            let wt = w.table in
-            let wr = w.same_rows in
-            let wp = w.same_pool in
-            let wk = w.same_stack in
-            record {
-              answered = rw (p, q) (a.answered ∙ ap answer_of q);
-              fit = rw (wt, wr, wp, wk) fit;
-              state = rw (p, q, wt, wr, wp, wk);
-              handed = rw (p, q) refl;
-              told = rw (p, n) a.told;
-              left = λ d. w;
-            }
 
     -- an answer that leaves the tables
     pub asked : {f : Frame} → parse ws ≡ framed f → next st f ≡ st → (w : Written) → writes (framed f) ≡ w → {r : Answer} {model' : List ℕ} →

@@ -21,22 +21,41 @@ pub fn step(
     ensures { Steps t rows.old pool.old stack.old frame.now result rows.new pool.new
         stack.new model.old model.new }
 {
-    let head = step_frame::parse(frame);
+    let Some(head) = step_frame::parse(frame) else {
+        return step_outcome::refused(Fault::Malformed, t);
+    };
     match head {
-        Head::Malformed => step_outcome::refused(Fault::Malformed, t),
-        Head::Add(id) => step_changes::add(rows, pool, stack, t, id, &frame[2..]),
+        Head::Add(id) => step_outcome::changed(
+            step_changes::add(rows, pool, stack, t, id, &frame[2..]),
+            t,
+        ),
         Head::Learn(id, n) => {
             let end = 3 + n;
-            step_changes::learn(rows, pool, stack, t, id, &frame[3..end], &frame[end..])
+            step_outcome::changed(
+                step_changes::learn(rows, pool, stack, t, id, &frame[3..end], &frame[end..]),
+                t,
+            )
         }
-        Head::Forget(id) => step_changes::forget(rows, pool, stack, t, id),
-        Head::Promote(id) => step_changes::promote(rows, pool, stack, t, id),
-        Head::Drop(id) => step_changes::drop_clause(rows, pool, stack, t, id, &frame[2..]),
+        Head::Forget(id) => {
+            step_outcome::changed(step_changes::forget(rows, pool, stack, t, id), t)
+        }
+        Head::Promote(id) => {
+            step_outcome::changed(step_changes::promote(rows, pool, stack, t, id), t)
+        }
+        Head::Drop(id) => step_outcome::changed(
+            step_changes::drop_clause(rows, pool, stack, t, id, &frame[2..]),
+            t,
+        ),
         Head::Weaken(id, n) => {
             let end = 3 + n;
-            step_changes::weaken(rows, pool, stack, t, id, &frame[3..end], &frame[end..])
+            step_outcome::changed(
+                step_changes::weaken(rows, pool, stack, t, id, &frame[3..end], &frame[end..]),
+                t,
+            )
         }
-        Head::Restore(id) => step_changes::restore(rows, pool, stack, t, id),
+        Head::Restore(id) => {
+            step_outcome::changed(step_changes::restore(rows, pool, stack, t, id), t)
+        }
         Head::Sat(n) => {
             let end = 2 + n;
             let answer = step_answers::sat(

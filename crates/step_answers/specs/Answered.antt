@@ -2,7 +2,7 @@
 use Rattle.std.specs.Prelude.{◌≡◌, List, ℕ, ℤ}
 use Rattle.rules.specs.Frames.{Frame}
 use Rattle.rules.specs.Answers.{check, Handed, untouched, mended, settled}
-use Rattle.rules.specs.declared.Answer.{Answer}
+use Rattle.rules.specs.Results.{Answer}
 use Rattle.lit_sets.specs.Words.{assigned}
 use Rattle.table.specs.Spelled.{Row, spelled}
 use Rattle.table.specs.declared.Table.{Table}

@@ -8,7 +8,7 @@ ghost use Rattle.table.specs.Spelled.{Fit, spelled};
 ghost use Rattle.step_outcome.specs.Told.{answer_of};
 ghost use Rattle.step_answers.specs.Answered.{AnswerOf};
 
-use rules::{Answer, Check};
+use rules::Answer;
 use table::{Row, Table};
 
 // SAT: the offered assignment is mended by the walk down the stack; only an accepted one writes the model.
@@ -25,19 +25,13 @@ pub fn sat(
     ensures { AnswerOf t rows.now pool.now stack.now (SAT assumed.now vs.now) result
         model.old model.new }
 {
-    let offer = judge_answers::judge_sat(rows, pool, stack, t, assumed, vs);
-    let judged = offer.judged;
-    let check = judged.check;
-    if let Check::Failed(fault) = check {
-        return Answer::Refused(fault);
-    }
-    let offered = offer.offered;
+    let offered = judge_answers::judge_sat(rows, pool, stack, t, assumed, vs)?;
     let n = t.count as usize;
     let depth = t.depth as usize;
     let mended = judge_walk::mend(&rows[..n], pool, &stack[..depth], offered);
     let changed = lit_sets::changed(&offered, &mended);
     *model = mended;
-    Answer::Accepted(changed)
+    Ok(changed)
 }
 
 pub fn unsat(
@@ -52,10 +46,6 @@ pub fn unsat(
     ensures { result ≡ answer_of (check (spelled t rows.now pool.now stack.now)
         (UNSAT assumed.now hints.now)) }
 {
-    let judged = judge_answers::judge_unsat(rows, pool, stack, t, assumed, hints);
-    let check = judged.check;
-    if let Check::Failed(fault) = check {
-        return Answer::Refused(fault);
-    }
-    Answer::Accepted(0)
+    judge_answers::judge_unsat(rows, pool, stack, t, assumed, hints)?;
+    Ok(0)
 }

@@ -1,5 +1,5 @@
 -- What an accepted frame's checks leave for the writers, and how judgment and write make an application.
-use mathlib.Core.Path.{◌≡◌, refl, sym, ap, subst}
+use mathlib.Core.Path.{◌≡◌, refl, subst}
 use mathlib.Core.Bool.{true}
 use mathlib.Core.List.{List}
 use Prim.Native.Nat.{ℕ, ◌+◌, ◌≤◌}
@@ -10,10 +10,12 @@ use borrow.Author.Tests.{ltb-true, leb-true}
 use Rattle.rules.specs.Terms.{is_witness, holds, Held, State, fetch, everything, room}
 use Rattle.rules.specs.Frames.{Frame, ADD, LEARN, WEAKEN}
 use Rattle.rules.specs.Answers.{check, flaw, unseen, new_id, free_entry, free_words}
+use Rattle.std.specs.Prelude.{Result, Ok, Err}
 use Rattle.rules.specs.declared.Fault.{Fault}
-use Rattle.rules.specs.declared.Check.TheVariants.{Passed, Failed}
+use Rattle.step_outcome.specs.Told.{answer_of, changed_with}
+use Rattle.step_changes.specs.Applied.{Applied}
 use Rattle.rules.proofs.Checks.{then_left, then_right, need_true, flaw_clause}
-use Rattle.table.specs.Spelled.{Row, row_at, id_of, place_of, held, clauses, held_rows, spelled, Fit}
+use Rattle.table.specs.Spelled.{Row, row_at, id_of, place_of, held, clauses, held_rows, spelled, Fit, Same}
 use Rattle.table_write.specs.Moved.{Moved, NewClause}
 use Rattle.weaken_write.specs.Records.{Weakenable}
 use Rattle.table.specs.declared.Table.{Table}
@@ -22,36 +24,25 @@ use Rattle.rules.specs.Lists.{any_passes}
 use Rattle.rules.proofs.Lists.{and_both}
 use Rattle.judge_checks.specs.Located.{RowOf}
 use Rattle.judge_checks.proofs.Located.{fetches_it}
-use Rattle.judge_checks.specs.Judged.{Judges}
-use Rattle.judge_checks.specs.declared.Judged.{Judged}
-use Rattle.judge_checks.proofs.Judging.{comes_to}
-use Rattle.step_outcome.specs.Told.{answer_of, refused_with, accepted_with}
-use Rattle.step_outcome.specs.declared.Stepped.{Stepped}
-use Rattle.step_changes.specs.Applied.{Applied}
 
--- ---- an application
+-- ---- a refused frame
 
-module _ {t : Table} {rows : List Row} {pool : List ℤ} {stack : List ℕ} {f : Frame} {r : Judged} (j : Judges t rows pool stack f r) where
-  pub refused : {e : Fault} {o : Stepped} → r.check ≡ Failed e → o ≡ refused_with e t → Applied t rows pool stack f o rows pool stack
-  refused q p =
-      let k = comes_to j q in
-      rw p (record {
-        answered = sym (ap answer_of k);
-        moved = λ m. let z : ◌≡◌ {A = ℕ} 0 1 = cc in absurd (omega arith);
-        left = λ d n. record { table = refl; same_rows = refl; same_pool = refl; same_stack = refl };
-        told = refl;
-      })
+-- the tables are as they were
+pub unmoved : {t : Table} {rows : List Row} {pool : List ℤ} {stack : List ℕ} → Same t rows pool stack t rows pool stack
+unmoved = record { table = refl; same_rows = refl; same_pool = refl; same_stack = refl }
 
-  pub accepted : {t' : Table} {rows' : List Row} {pool' : List ℤ} {stack' : List ℕ} {o : Stepped} → r.check ≡ Passed → o ≡ accepted_with t' →
-      Moved t rows pool stack t' rows' pool' stack' f → Applied t rows pool stack f o rows' pool' stack'
-  accepted q p m =
-      let k = comes_to j q in
-      rw p (record {
-        answered = sym (ap answer_of k);
-        moved = λ n. m;
-        left = λ d n. let z : ◌≡◌ {A = ℕ} 0 1 = cc in absurd (omega arith);
-        told = refl;
-      })
+-- ---- an application, as what the frame came to
+
+module _ (t : Table) (rows : List Row) (pool : List ℤ) (stack : List ℕ) (f : Frame) (rows' : List Row) (pool' : List ℤ) (stack' : List ℕ) where
+  pub answers : (r : Result Table Fault) → Applied t rows pool stack f r rows' pool' stack' →
+      (changed_with r t).answer ≡ answer_of (check (spelled t rows pool stack) f)
+  answers (Ok t') (q, m) = rw q refl
+  answers (Err e) (q, w) = rw q refl
+
+  pub moves : (r : Result Table Fault) → Applied t rows pool stack f r rows' pool' stack' → check (spelled t rows pool stack) f ≡ Ok tt →
+      Moved t rows pool stack (changed_with r t).table rows' pool' stack' f
+  moves (Ok t') (q, m) p = m
+  moves (Err e) (q, w) p = let z : ◌≡◌ {A = ℕ} 0 1 = cc in absurd (omega arith)
 
 -- ---- a frame that names a held clause
 
@@ -63,7 +54,7 @@ module _ {t : Table} {rows : List Row} {pool : List ℤ} {stack : List ℕ} {t' 
 
 -- WEAKEN's row and witness
 pub weakenable : {t : Table} {rows : List Row} {pool : List ℤ} {stack : List ℕ} (fit : Fit t rows pool stack) {i k : ℕ} (witness groups : List ℤ) →
-    length witness ≤ 256 → RowOf t rows 0 i k → check (spelled t rows pool stack) (WEAKEN i witness groups) ≡ Passed → Weakenable t rows pool k witness
+    length witness ≤ 256 → RowOf t rows 0 i k → check (spelled t rows pool stack) (WEAKEN i witness groups) ≡ Ok tt → Weakenable t rows pool k witness
 unfolding is_witness check
 weakenable {t} {rows} {pool} {stack} fit {i} {k} witness groups short o e =
     let st = spelled t rows pool stack in
@@ -87,7 +78,7 @@ module _ {t : Table} {rows : List Row} {pool : List ℤ} {stack : List ℕ} (fit
   st = spelled t rows pool stack
 
   -- from the checks that ADD and LEARN share
-  new_clause : (at : ℕ) → flaw t.vars unseen at c ≡ Passed → new_id st i ≡ Passed → free_entry st ≡ Passed → free_words st (length c) ≡ Passed →
+  new_clause : (at : ℕ) → flaw t.vars unseen at c ≡ Ok tt → new_id st i ≡ Ok tt → free_entry st ≡ Ok tt → free_words st (length c) ≡ Ok tt →
       NewClause t pool i c
   new_clause at a b d e = record {
     entry = let h = ltb-true (length (everything st)) t.entries (need_true _ _ d) in omega (arith, count_held fit, gone_most fit);
@@ -96,14 +87,14 @@ module _ {t : Table} {rows : List Row} {pool : List ℤ} {stack : List ℕ} (fit
     clause = flaw_clause t.vars at c short a;
   }
 
-  pub add_passed : check st (ADD i c) ≡ Passed → NewClause t pool i c
+  pub add_passed : check st (ADD i c) ≡ Ok tt → NewClause t pool i c
   unfolding check
   add_passed e =
       let n = then_right _ _ e in
       let r = then_right _ _ (then_right _ _ n) in
       new_clause 2 (then_left _ _ e) (then_left _ _ n) (then_left _ _ r) (then_right _ _ r)
 
-  pub learn_passed : (hints : List ℤ) → check st (LEARN i c hints) ≡ Passed → NewClause t pool i c
+  pub learn_passed : (hints : List ℤ) → check st (LEARN i c hints) ≡ Ok tt → NewClause t pool i c
   unfolding check
   learn_passed hints e =
       let n = then_right _ _ e in

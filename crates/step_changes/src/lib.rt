@@ -1,4 +1,4 @@
-// The operations that write: each judged by &, and applied by &mut only after its acceptance.
+// The operations that write: each judged by &, and applied by &mut only after its acceptance. What each hands back are the numbers beside the tables after it.
 #![tactic(auto)]
 
 ghost use Rattle.std.specs.Prelude.{◌+◌, ◌≤◌, length};
@@ -6,8 +6,7 @@ ghost use Rattle.rules.specs.Frames.{ADD, LEARN, FORGET, PROMOTE, DROP, WEAKEN, 
 ghost use Rattle.table.specs.Spelled.{Fit};
 ghost use Rattle.step_changes.specs.Applied.{Applied};
 
-use rules::Check;
-use step_outcome::Stepped;
+use rules::Fault;
 use table::{Row, Table};
 
 pub fn add(
@@ -17,17 +16,13 @@ pub fn add(
     t: Table,
     id: u32,
     c: &[i32],
-) -> Stepped
+) -> Result<Table, Fault>
     requires { Fit t rows.old pool.old stack.now × (length c.now ≤ 256) × (id ≤ 2147483647) }
     ensures { Applied t rows.old pool.old stack.now (ADD id c.now) result rows.new pool.new
         stack.now }
 {
-    let judged = judge_changes::judge_add(rows, pool, stack, t, id, c);
-    let check = judged.check;
-    if let Check::Failed(fault) = check {
-        return step_outcome::refused(fault, t);
-    }
-    step_outcome::accepted(table_write::append(rows, pool, stack, t, 0, id, c))
+    judge_changes::judge_add(rows, pool, stack, t, id, c)?;
+    Ok(table_write::append(rows, pool, stack, t, 0, id, c))
 }
 
 pub fn learn(
@@ -38,43 +33,43 @@ pub fn learn(
     id: u32,
     c: &[i32],
     hints: &[i32],
-) -> Stepped
+) -> Result<Table, Fault>
     requires { Fit t rows.old pool.old stack.now × (length c.now ≤ 256) × (length hints.now ≤ 4096) × (id ≤ 2147483647) }
     ensures { Applied t rows.old pool.old stack.now (LEARN id c.now hints.now) result
         rows.new pool.new stack.now }
 {
-    let judged = judge_changes::judge_learn(rows, pool, stack, t, id, c, hints);
-    let check = judged.check;
-    if let Check::Failed(fault) = check {
-        return step_outcome::refused(fault, t);
-    }
-    step_outcome::accepted(table_write::append(rows, pool, stack, t, 1, id, c))
+    judge_changes::judge_learn(rows, pool, stack, t, id, c, hints)?;
+    Ok(table_write::append(rows, pool, stack, t, 1, id, c))
 }
 
-pub fn forget(rows: &mut [Row], pool: &[i32], stack: &[u32], t: Table, id: u32) -> Stepped
+pub fn forget(
+    rows: &mut [Row],
+    pool: &[i32],
+    stack: &[u32],
+    t: Table,
+    id: u32,
+) -> Result<Table, Fault>
     requires { Fit t rows.old pool.now stack.now }
     ensures { Applied t rows.old pool.now stack.now (FORGET id) result rows.new pool.now
         stack.now }
 {
-    let judged = judge_changes::judge_forget_or_promote(rows, pool, stack, t, id);
-    let check = judged.check;
-    if let Check::Failed(fault) = check {
-        return step_outcome::refused(fault, t);
-    }
-    step_outcome::accepted(table_write::remove(rows, pool, stack, t, judged.row))
+    let row = judge_changes::judge_forget_or_promote(rows, pool, stack, t, id)?;
+    Ok(table_write::remove(rows, pool, stack, t, row))
 }
 
-pub fn promote(rows: &mut [Row], pool: &[i32], stack: &[u32], t: Table, id: u32) -> Stepped
+pub fn promote(
+    rows: &mut [Row],
+    pool: &[i32],
+    stack: &[u32],
+    t: Table,
+    id: u32,
+) -> Result<Table, Fault>
     requires { Fit t rows.old pool.now stack.now }
     ensures { Applied t rows.old pool.now stack.now (PROMOTE id) result rows.new pool.now
         stack.now }
 {
-    let judged = judge_changes::judge_forget_or_promote(rows, pool, stack, t, id);
-    let check = judged.check;
-    if let Check::Failed(fault) = check {
-        return step_outcome::refused(fault, t);
-    }
-    step_outcome::accepted(table_write::promote(rows, pool, stack, t, judged.row))
+    let row = judge_changes::judge_forget_or_promote(rows, pool, stack, t, id)?;
+    Ok(table_write::promote(rows, pool, stack, t, row))
 }
 
 pub fn drop_clause(
@@ -84,17 +79,13 @@ pub fn drop_clause(
     t: Table,
     id: u32,
     hints: &[i32],
-) -> Stepped
+) -> Result<Table, Fault>
     requires { Fit t rows.old pool.now stack.now × (length hints.now ≤ 4096) }
     ensures { Applied t rows.old pool.now stack.now (DROP id hints.now) result rows.new
         pool.now stack.now }
 {
-    let judged = judge_changes::judge_drop(rows, pool, stack, t, id, hints);
-    let check = judged.check;
-    if let Check::Failed(fault) = check {
-        return step_outcome::refused(fault, t);
-    }
-    step_outcome::accepted(table_write::remove(rows, pool, stack, t, judged.row))
+    let row = judge_changes::judge_drop(rows, pool, stack, t, id, hints)?;
+    Ok(table_write::remove(rows, pool, stack, t, row))
 }
 
 pub fn weaken(
@@ -105,28 +96,26 @@ pub fn weaken(
     id: u32,
     witness: &[i32],
     groups: &[i32],
-) -> Stepped
+) -> Result<Table, Fault>
     requires { Fit t rows.old pool.old stack.old × (length witness.now ≤ 256) × (3 + length witness.now + length groups.now ≤ 4096) }
     ensures { Applied t rows.old pool.old stack.old (WEAKEN id witness.now groups.now) result
         rows.new pool.new stack.new }
 {
-    let judged = weaken_judge::judge_weaken(rows, pool, stack, t, id, witness, groups);
-    let check = judged.check;
-    if let Check::Failed(fault) = check {
-        return step_outcome::refused(fault, t);
-    }
-    step_outcome::accepted(weaken_write::weaken(rows, pool, stack, t, judged.row, witness))
+    let row = weaken_judge::judge_weaken(rows, pool, stack, t, id, witness, groups)?;
+    Ok(weaken_write::weaken(rows, pool, stack, t, row, witness))
 }
 
-pub fn restore(rows: &mut [Row], pool: &[i32], stack: &mut [u32], t: Table, id: u32) -> Stepped
+pub fn restore(
+    rows: &mut [Row],
+    pool: &[i32],
+    stack: &mut [u32],
+    t: Table,
+    id: u32,
+) -> Result<Table, Fault>
     requires { Fit t rows.old pool.now stack.old }
     ensures { Applied t rows.old pool.now stack.old (RESTORE id) result rows.new pool.now
         stack.new }
 {
-    let judged = judge_changes::judge_restore(rows, pool, stack, t, id);
-    let check = judged.check;
-    if let Check::Failed(fault) = check {
-        return step_outcome::refused(fault, t);
-    }
-    step_outcome::accepted(table_write::restore(rows, pool, stack, t, judged.row))
+    let row = judge_changes::judge_restore(rows, pool, stack, t, id)?;
+    Ok(table_write::restore(rows, pool, stack, t, row))
 }

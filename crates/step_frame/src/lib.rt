@@ -9,7 +9,6 @@ ghost use Rattle.step_frame.specs.Head.{CountsWords, Reads, row, pair};
 // The operation, its id, and the length of its list.
 #[derive(Clone, Copy)]
 pub enum Head {
-    Malformed,
     Add(u32),
     Learn(u32, usize),
     Forget(u32),
@@ -21,13 +20,7 @@ pub enum Head {
     Unsat(usize),
 }
 
-#[derive(Clone, Copy)]
-pub enum Count {
-    Of(usize),
-    Wrong,
-}
-
-// The least word counts of the operations 1 to 9.
+// The least word counts of the operations 1 to 9. An operation is a number till its head is read, which is an enum.
 const LEAST_WORDS: [usize; 9] = [2, 3, 2, 2, 2, 3, 2, 2, 2];
 
 fn least_words(op: usize) -> usize
@@ -45,104 +38,91 @@ fn number_at(frame: &[i32], at: usize) -> usize
 }
 
 // The word at `at` as a count, from `least` to 256, of the words behind it.
-fn count_at(frame: &[i32], at: usize, least: usize) -> Count
+fn count_at(frame: &[i32], at: usize, least: usize) -> Option<usize>
     requires { at < length frame.now }
     ensures { CountsWords least frame.now at result }
 {
     if !lit::is_not_negative(frame[at]) {
-        return Count::Wrong;
+        return None;
     }
     let n = number_at(frame, at);
     if n < least {
-        return Count::Wrong;
+        return None;
     }
     if 256 < n {
-        return Count::Wrong;
+        return None;
     }
     if frame.len() - (at + 1) < n {
-        return Count::Wrong;
+        return None;
     }
-    Count::Of(n)
+    Some(n)
 }
 
 // FORGET, PROMOTE and RESTORE have exactly 2 words.
-fn pair_head(n: usize, head: Head) -> Head
+fn pair_head(n: usize, head: Head) -> Option<Head>
     ensures { result ≡ pair n head }
 {
-    if n == 2 { head } else { Head::Malformed }
+    if n == 2 { Some(head) } else { None }
 }
 
 // Operations 1 to 7: word 1 is an id.
-fn named_head(frame: &[i32], op: usize, id: u32) -> Head
+fn named_head(frame: &[i32], op: usize, id: u32) -> Option<Head>
     requires { (1 ≤ op) × (op ≤ 7) × (get_or least_words (op - 1) 0 ≤ length frame.now) × (length frame.now ≤ 4096) × (0 < id)
         × (id ≡ number (word frame.now 1)) × (id ≤ 2147483647) }
     ensures { Reads (row op frame.now) frame.now result }
 {
     let n = frame.len();
     match op {
-        1 => {
-            if n <= 258 {
-                Head::Add(id)
-            } else {
-                Head::Malformed
-            }
-        }
-        2 => match count_at(frame, 2, 0) {
-            Count::Of(k) => Head::Learn(id, k),
-            Count::Wrong => Head::Malformed,
-        },
+        1 => if n <= 258 { Some(Head::Add(id)) } else { None },
+        2 => Some(Head::Learn(id, count_at(frame, 2, 0)?)),
         3 => pair_head(n, Head::Forget(id)),
         4 => pair_head(n, Head::Promote(id)),
-        5 => Head::Drop(id),
-        6 => match count_at(frame, 2, 1) {
-            Count::Of(k) => Head::Weaken(id, k),
-            Count::Wrong => Head::Malformed,
-        },
+        5 => Some(Head::Drop(id)),
+        6 => Some(Head::Weaken(id, count_at(frame, 2, 1)?)),
         _ => pair_head(n, Head::Restore(id)),
     }
 }
 
 // Operations 8 and 9: word 1 counts the assumptions.
-fn assuming_head(frame: &[i32], op: usize) -> Head
+fn assuming_head(frame: &[i32], op: usize) -> Option<Head>
     requires { (8 ≤ op) × (op ≤ 9) × (2 ≤ length frame.now) × (length frame.now ≤ 4096) }
     ensures { Reads (row op frame.now) frame.now result }
 {
-    let Count::Of(k) = count_at(frame, 1, 0) else {
-        return Head::Malformed;
-    };
+    let k = count_at(frame, 1, 0)?;
     if op == 8 {
-        Head::Sat(k)
+        Some(Head::Sat(k))
     } else {
-        Head::Unsat(k)
+        Some(Head::Unsat(k))
     }
 }
 
-pub fn parse(frame: &[i32]) -> Head
+// What the words' head says; None where they are malformed.
+pub fn parse(frame: &[i32]) -> Option<Head>
     ensures { Reads (paper.parse frame.now) frame.now result }
 {
     let n = frame.len();
     if n == 0 {
-        return Head::Malformed;
+        return None;
     }
     if 4096 < n {
-        return Head::Malformed;
+        return None;
     }
     let op = number_at(frame, 0);
     if op == 0 {
-        return Head::Malformed;
+        return None;
     }
     if 9 < op {
-        return Head::Malformed;
+        return None;
     }
     if n < least_words(op) {
-        return Head::Malformed;
+        return None;
     }
     if 7 < op {
         return assuming_head(frame, op);
     }
     let id = number_at(frame, 1);
     if id == 0 {
-        return Head::Malformed;
+        return None;
     }
     named_head(frame, op, id as u32)
 }

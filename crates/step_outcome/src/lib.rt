@@ -2,7 +2,7 @@
 #![tactic(auto)]
 
 ghost use Rattle.std.specs.Prelude.{◌≡◌, ◌||◌};
-ghost use Rattle.step_outcome.specs.Told.{accepted_with, answered_with, is_tables, refused_with};
+ghost use Rattle.step_outcome.specs.Told.{accepted_with, answered_with, changed_with, is_tables, refused_with};
 
 use rules::{Answer, Fault};
 use table::Table;
@@ -27,7 +27,7 @@ pub fn refused(fault: Fault, table: Table) -> Stepped
     ensures { result ≡ refused_with fault table }
 {
     Stepped {
-        answer: Answer::Refused(fault),
+        answer: Err(fault),
         table,
         written: Written::Nothing,
     }
@@ -37,9 +37,19 @@ pub fn accepted(table: Table) -> Stepped
     ensures { result ≡ accepted_with table }
 {
     Stepped {
-        answer: Answer::Accepted(0),
+        answer: Ok(0),
         table,
         written: Written::Tables,
+    }
+}
+
+// What an operation that writes came to: the numbers beside the tables after it, or why it is refused.
+pub fn changed(moved: Result<Table, Fault>, before: Table) -> Stepped
+    ensures { result ≡ changed_with moved before }
+{
+    match moved {
+        Ok(table) => accepted(table),
+        Err(fault) => refused(fault, before),
     }
 }
 
@@ -48,12 +58,12 @@ pub fn answered(answer: Answer, written: Written, table: Table) -> Stepped
     ensures { result ≡ answered_with answer written table }
 {
     match answer {
-        Answer::Accepted(_) => Stepped {
+        Ok(_) => Stepped {
             answer,
             table,
             written,
         },
-        Answer::Refused(_) => Stepped {
+        Err(_) => Stepped {
             answer,
             table,
             written: Written::Nothing,
@@ -65,11 +75,7 @@ pub fn answered(answer: Answer, written: Written, table: Table) -> Stepped
 pub fn altered(written: Written) -> bool
     ensures { result ≡ is_tables written }
 {
-    match written {
-        Written::Nothing => false,
-        Written::Tables => true,
-        Written::Model => false,
-    }
+    matches!(written, Written::Tables)
 }
 
 // Whether one of two lines, or runs of lines, wrote them.

@@ -1,10 +1,10 @@
 -- Laws of a fact of each element, and of every two. Nothing here knows of clauses.
 use mathlib.Core.Path.{◌≡◌, refl}
 use mathlib.Core.List.{List, [], ◌∷◌, ◌++◌, map, reverse, reverse-cons}
-use Prim.Native.Nat.{ℕ, zero, suc, ◌+◌, ◌<◌, ◌≤◌}
+use Prim.Native.Nat.{ℕ, zero, suc, ◌+◌, ◌<◌}
 use native.Mathlib.Omega.{arith}
 use native.Mathlib.Nat.{le_of_suc-le-suc, not-suc-le-zero}
-use lib.ListN.{length, get_or, drop, drop_of_length-le}
+use lib.ListN.{length, get_or, drop}
 use Rattle.rules.proofs.Lists.{from_index}
 use Rattle.table.specs.Facts.{All, none, both, Pairs, alone, ahead, total}
 
@@ -116,6 +116,3 @@ module _ {A : Type 0} (f : A → ℕ) where
   -- what is left from an index on, for a loop that passes the list
   pub total_on : (xs : List A) (i : ℕ) (d : A) → i < length xs → total f (drop i xs) ≡ f (get_or xs i d) + total f (drop (i + 1) xs)
   total_on xs i d h = let e = from_index xs i d h in rw e
-
-  pub total_past : (xs : List A) (i : ℕ) → length xs ≤ i → total f (drop i xs) ≡ 0
-  total_past xs i h = let e = drop_of_length-le xs h in rw e

@@ -14,7 +14,7 @@ use Rattle.rules.specs.Terms.{has, fetch}
 use Rattle.rules.proofs.Lists.{by_cases}
 use Rattle.table.specs.Facts.{All}
 use Rattle.table.specs.Spelled.{Row, row_at, id_of, place_of, held, stands, clauses, Rising, Located, InPlace, in_place}
-use Rattle.table.specs.declared.Found.TheVariants.{Nothing}
+use Rattle.std.specs.Prelude.{None}
 use Rattle.table.proofs.Facts.{pairs_index, all_indexed, all_join, all_more, all_map, pairs_before, pairs_after}
 use Rattle.table.proofs.Entries.{spell, clauses_spell, spell_unseen, has_here, has_none, fetch_here}
 
@@ -23,7 +23,7 @@ module _ {rows : List Row} (rising : Rising rows) (i m : ℕ) (h : m < length ro
   pub below_row : id_of (row_at rows m) < i → (j : ℕ) → j < m + 1 → id_of (row_at rows j) < i
   below_row l = below_more _ m (λ j b. let r = pairs_index rising j m [] b h in omega arith) l
 
-  pub none_after : i < id_of (row_at rows m) → ((j : ℕ) → j < m → id_of (row_at rows j) < i) → Located rows i Nothing
+  pub none_after : i < id_of (row_at rows m) → ((j : ℕ) → j < m → id_of (row_at rows j) < i) → Located rows i None
   none_after l b k g e =
       by_cases (ltb k m)
       (λ t. let q = b k (ltb-true k m t) in absurd (omega arith))
@@ -33,7 +33,7 @@ module _ {rows : List Row} (rising : Rising rows) (i m : ℕ) (h : m < length ro
 
 module _ (pool : List ℤ) (rows : List Row) where
   -- no row has the id: no place has it
-  pub nowhere : (i : ℕ) → Located rows i Nothing → (p : ℕ) → has (clauses p pool rows) i ≡ false
+  pub nowhere : (i : ℕ) → Located rows i None → (p : ℕ) → has (clauses p pool rows) i ≡ false
   nowhere i n p = let e = clauses_spell p pool rows in rw e (has_none p i _ (all_map (in_place pool) rows (all_indexed rows [] n)))
 
   module _ (rising : Rising rows) (k : ℕ) (h : k < length rows) where

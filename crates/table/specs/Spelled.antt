@@ -6,8 +6,8 @@ use Rattle.rules.specs.Terms.{in_range, is_clause, is_witness, Held, State, has,
 use Rattle.rules.specs.Frames.{place}
 use Rattle.table.specs.Facts.{All, Pairs, total}
 use Rattle.table.specs.declared.Table.{Table}
-use Rattle.table.specs.declared.Found.{Found}
-use Rattle.table.specs.declared.Found.TheVariants.{At, Nothing}
+use Rattle.std.specs.Prelude.{Option}
+use Rattle.std.specs.Prelude.{Some, None}
 
 -- ---- a row
 
@@ -185,6 +185,6 @@ abbrev pub Below : List Row → ℕ → ℕ → Type 0
 Below rows i k = (k ≤ length rows) × ((j : ℕ) → j < k → id_of (row_at rows j) < i)
 
 -- where the id is, or that it is nowhere
-abbrev pub Located : List Row → ℕ → Found → Type 0
-Located rows i (At k) = (k < length rows) × (id_of (row_at rows k) ≡ i)
-Located rows i Nothing = (k : ℕ) → k < length rows → id_of (row_at rows k) ≡ i → ⊥
+abbrev pub Located : List Row → ℕ → Option ℕ → Type 0
+Located rows i (Some k) = (k < length rows) × (id_of (row_at rows k) ≡ i)
+Located rows i None = (k : ℕ) → k < length rows → id_of (row_at rows k) ≡ i → ⊥

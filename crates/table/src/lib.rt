@@ -5,7 +5,8 @@ ghost use Rattle.std.specs.Prelude.{◌≡◌, ◌+◌, ◌<◌, ◌≤◌, leng
 ghost use Rattle.table.specs.Spelled.{Below, Inside, Located, Rising, clause_part, id_of, length_of, place_of, row_at, size, start_of, witness_part};
 ghost use Rattle.table.specs.Spelled.{moved_row, part};
 
-// A row, and where each of its words stands in it.
+// A row, and where each of its words stands in it. It is an array, and its place a number, since rows are lent entries word for word: a caller in C may hand
+// in any bits.
 pub type Row = [u32; 5];
 
 pub const ID: usize = 0;
@@ -32,12 +33,6 @@ pub struct Table {
     pub top: u32,
 }
 
-#[derive(Clone, Copy)]
-pub enum Found {
-    At(usize),
-    Nothing,
-}
-
 // ---- readers, of the rows in use: a caller passes &rows[..count]
 
 // A row up to which all ids are less, found in strides of 32 rows.
@@ -47,6 +42,7 @@ fn stride(rows: &[Row], id: u32) -> usize
 {
     let n = rows.len();
     let mut k = 0;
+    // Stays a `while`: the step is 32 rows, and k is the result where it ends.
     while 32 <= n - k {
         if id <= rows[k + 31][ID] {
             break;
@@ -57,22 +53,20 @@ fn stride(rows: &[Row], id: u32) -> usize
 }
 
 // The row of an id.
-pub fn find(rows: &[Row], id: u32) -> Found
+pub fn find(rows: &[Row], id: u32) -> Option<usize>
     requires { Rising rows.now }
     ensures { Located rows.now id result }
 {
-    let mut k = stride(rows, id);
-    while k < rows.len() {
+    for k in stride(rows, id)..rows.len() {
         let here = rows[k][ID];
         if here == id {
-            return Found::At(k);
+            return Some(k);
         }
         if id < here {
-            break;
+            return None;
         }
-        k += 1;
     }
-    Found::Nothing
+    None
 }
 
 pub fn id_at(rows: &[Row], k: usize) -> u32
@@ -102,14 +96,14 @@ pub fn wide(x: u32) -> usize
 pub fn size_of(row: Row) -> usize
     ensures { (result ≡ size row) × (result ≤ 8589934590) }
 {
-    wide(row[LENGTH]) + wide(row[WITNESS])
+    row[LENGTH] as usize + row[WITNESS] as usize
 }
 
 // Where its witness starts, behind its literals.
 fn witness_start(row: Row) -> usize
     ensures { result ≡ start_of row + length_of row }
 {
-    wide(row[START]) + wide(row[LENGTH])
+    row[START] as usize + row[LENGTH] as usize
 }
 
 // A part of the pool, with no copy.
@@ -127,7 +121,7 @@ pub fn clause_of<'a>(rows: &[Row], pool: &'a [i32], k: usize) -> &'a [i32]
     ensures { result.now ≡ clause_part pool.now (row_at rows.now k) }
 {
     let row = rows[k];
-    part_of(pool, wide(row[START]), wide(row[LENGTH]))
+    part_of(pool, row[START] as usize, row[LENGTH] as usize)
 }
 
 // The witness behind them.
@@ -136,7 +130,7 @@ pub fn witness_of<'a>(rows: &[Row], pool: &'a [i32], k: usize) -> &'a [i32]
     ensures { result.now ≡ witness_part pool.now (row_at rows.now k) }
 {
     let row = rows[k];
-    part_of(pool, witness_start(row), wide(row[WITNESS]))
+    part_of(pool, witness_start(row), row[WITNESS] as usize)
 }
 
 // ---- the one writer of a row that is there already

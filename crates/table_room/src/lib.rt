@@ -13,19 +13,16 @@ fn gather(rows: &mut [Row], pool: &[i32], stack: &[u32], t: Table, buffer: &mut 
     requires { Fit t rows.old pool.now stack.now × (t.words ≤ length buffer.old) × (length buffer.old ≤ 8192) }
     ensures { Gathered rows.old pool.now t.count result rows.new buffer.new × (result ≡ t.words) }
 {
-    let count = t.count as usize;
-    let mut i = 0;
     let mut at: usize = 0;
-    while i < count {
+    for i in 0..t.count as usize {
         let row = rows[i];
         let n = table::size_of(row);
         table_slices::write_literals(
             &mut buffer[at..],
-            table::part_of(pool, table::wide(row[START]), n),
+            table::part_of(pool, row[START] as usize, n),
         );
         table::move_row(rows, i, row[PLACE], at as u32, row[LENGTH], row[WITNESS]);
         at += n;
-        i += 1;
     }
     at
 }
@@ -61,11 +58,9 @@ fn close_up(rows: &mut [Row], count: usize) -> usize
     requires { count ≤ length rows.old }
     ensures { ClosedUp rows.old count result rows.new }
 {
-    let mut i = 0;
     let mut k = 0;
-    while i < count {
+    for i in 0..count {
         let row = rows[i];
-        i += 1;
         if row[PLACE] != 3 {
             rows[k] = row;
             k += 1;

@@ -5,14 +5,14 @@ use mathlib.Core.List.Memᴰ
 use mathlib.Core.List.{List, [], ◌∷◌, ◌++◌, reverse, reverse-cons, Memᴰ}
 use mathlib.Core.List.{append_assoc, append-nil}
 use Prim.Native.Nat.{ℕ, zero, suc, ◌+◌, ◌-◌, ◌<◌, ◌≤◌}
-use native.Mathlib.Nat.{sub_self, add-sub_of_le, eq-or-lt_of_le}
+use native.Mathlib.Nat.{add-sub_of_le}
 use native.Mathlib.Numerals.{add-one}
 use native.Mathlib.Omega.{arith}
-use lib.ListN.{length, get_or, set, take, drop, length-append, length-drop, take-append-drop}
+use lib.ListN.{length, get_or, set, take, drop, length-append, length-drop}
 use lib.Seq.{length-take-le, take-nil, take_all, take-length, take-append-le, take-append_seam, drop-length, take-suc, drop-cons, take_at, drop_at, set_at}
-use lib.Seq.{append_snoc, get_or-append-add, get_or-drop, take-take, drop-drop, take-suc-set, take-set-lt, set_split}
+use lib.Seq.{append_snoc, take-take, drop-drop, take-suc-set, take-set-lt, set_split}
 use borrow.Rule.Slice.PartMut.{mid_of, post_of, put_mid}
-use Rattle.table_slices.specs.Writes.{over, written, closed, Among, Unmet}
+use Rattle.table_slices.specs.Writes.{over, written, closed, Among}
 
 module _ {A : Type 0} where
   drop_take : (i n : ℕ) (l : List A) → drop i (take n l) ≡ take (n - i) (drop i l)
@@ -128,32 +128,6 @@ module _ {A : Type 0} where
     pub length_closed : (j : ℕ) → i ≤ j → j < length l → length (closed l i j) ≡ length l
     length_closed j ij jl = ap length (closed_is j) ∙ omega (arith, length-append (front j) (drop j l), length_front j ij jl, length-drop j l)
 
-    pub closed_start : i ≤ length l → closed l i i ≡ l
-    closed_start il = rw (sub_self i, take-append-drop i l)
-
-    -- a turn of the loop that shifts
-    pub closed_next : (j : ℕ) (d : A) → i ≤ j → j + 1 < length l → set (closed l i j) j (get_or (closed l i j) (j + 1) d) ≡ closed l i (j + 1)
-    closed_next j d ij jl =
-        let jl₀ : j < length l = omega arith in
-        let lf : length (front j) ≡ j = length_front j ij jl₀ in
-        let m : List A = drop (suc i) l in
-        let lm : j - i < length m = omega (arith, length-drop (suc i) l) in
-        let x : A = get_or l (suc j) d in
-        let read : get_or (closed l i j) (j + 1) d ≡ x =
-        ap (λ (r : List A). get_or r (j + 1) d) (closed_is j)
-        ∙ ap (λ (k : ℕ). get_or (front j ++ drop j l) k d) (sym (ap (λ (k : ℕ). k + 1) lf))
-        ∙ get_or-append-add (front j) (drop j l) 1 d ∙ get_or-drop j l 1 d ∙ ap (λ (k : ℕ). get_or l k d) (add-one j) in
-        let at_last : suc i + (j - i) ≡ suc j = omega arith in
-        let last : get_or m (j - i) d ≡ x = get_or-drop (suc i) l (j - i) d ∙ ap (λ (k : ℕ). get_or l k d) at_last in
-        let one : suc (j - i) ≡ j + 1 - i = omega arith in
-        ap (λ (y : A). set (closed l i j) j y) read
-        ∙ ap (λ (r : List A). set r j x) (closed_is j ∙ ap (λ (r : List A). front j ++ r) (drop-cons l j d jl₀))
-        ∙ set_at (front j) (get_or l j d) (drop (suc j) l) x j lf
-        ∙ append_assoc (take i l) (take (j - i) m) (x ∷ drop (suc j) l)
-        ∙ ap (λ (r : List A). take i l ++ r) (sym (append_snoc (take (j - i) m) x (drop (suc j) l))
-        ∙ ap (λ (y : A). (take (j - i) m ++ (y ∷ [])) ++ drop (suc j) l) (sym last) ∙ ap (λ (r : List A). r ++ drop (suc j) l) (sym (take-suc m (j - i) d lm))
-        ∙ ap (λ (k : ℕ). take k m ++ drop (suc j) l) one ∙ ap (λ (k : ℕ). take (j + 1 - i) m ++ drop k l) (sym (add-one j)))
-
     -- the first n, with the one at i gone
     pub take_closed : (n : ℕ) → i < n → n ≤ length l → take (n - 1) (closed l i (n - 1)) ≡ take i (take n l) ++ drop (suc i) (take n l)
     take_closed n h k =
@@ -179,15 +153,3 @@ among_of {i} (suc n) (j ∷ ids) m = ⊎_elim
     (λ e. record { index = 0; low = omega arith; named = sym e })
     (λ (k : Memᴰ i (take n ids)). let a : Among ids n i = among_of n ids k in let l = a.low in record { index = suc a.index; low = omega arith; named = a.named })
     (Memᴰ.cases_cons m)
-
-pub among_below : {ids : List ℕ} {j i : ℕ} → Among ids (j + 1) i → (get_or ids j 0 ≡ i → ⊥) → Among ids j i
-among_below {ids} {j} {i} a n = ⊎_elim
-    (λ e. absurd (n (ap (λ k. get_or ids k 0) (sym e) ∙ a.named)))
-    (λ l. record { index = a.index; low = l; named = a.named })
-    (eq-or-lt_of_le (let l = a.low in omega arith))
-
-pub unmet_next : (ids : List ℕ) (i j n : ℕ) → Unmet ids i j n → (get_or ids j 0 ≡ i → ⊥) → Unmet ids i (j - 1) n
-unmet_next ids i j n u here m h k e = ⊎_elim
-    (λ (q : j ≡ m). here (ap (λ k. get_or ids k 0) q ∙ e))
-    (λ l. u m l k e)
-    (eq-or-lt_of_le (omega arith))

@@ -9,11 +9,7 @@ pub fn write_literals(tail: &mut [i32], lits: &[i32])
     requires { length lits.now ≤ length tail.old }
     ensures { tail.new ≡ over tail.old lits.now }
 {
-    let mut i = 0;
-    while i < lits.len() {
-        tail[i] = lits[i];
-        i += 1;
-    }
+    tail[..lits.len()].copy_from_slice(lits);
 }
 
 // The literals, and the witness behind them, over the words of the pool from `at` on.
@@ -32,12 +28,7 @@ pub fn close_stack(stack: &mut [u32], n: usize, at: usize)
     requires { (n ≤ length stack.old) × (at < n) }
     ensures { stack.new ≡ closed stack.old at (n - 1) }
 {
-    let mut j = at;
-    let last = n - 1;
-    while j < last {
-        stack[j] = stack[j + 1];
-        j += 1;
-    }
+    stack.copy_within(at + 1..n, at);
 }
 
 // Where the id stands among the first n of the stack, the last such place: it does stand there, so the search from the top ends at it.
@@ -45,11 +36,7 @@ pub fn position(stack: &[u32], n: usize, id: u32) -> usize
     requires { (n ≤ length stack.now) × Among stack.now n id }
     ensures { (result < n) × (get_or stack.now result 0 ≡ id) × Unmet stack.now id result n }
 {
-    let mut j = n - 1;
-    while stack[j] != id {
-        j -= 1;
-    }
-    j
+    stack[..n].iter().rposition(|x| *x == id).unwrap()
 }
 
 // The words, over all of a buffer of 32.
@@ -57,9 +44,5 @@ pub fn write_words(buffer: &mut [u64], words: [u64; 32])
     requires { length buffer.old ≡ 32 }
     ensures { buffer.new ≡ words }
 {
-    let mut k = 0;
-    while k < 32 {
-        buffer[k] = words[k];
-        k += 1;
-    }
+    buffer.copy_from_slice(&words);
 }

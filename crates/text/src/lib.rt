@@ -10,14 +10,12 @@ pub fn line_end(text: &[u8], from: usize) -> usize
     requires { from ≤ length text.now }
     ensures { LineEnds text.now from result }
 {
-    let mut i = from;
-    while i < text.len() {
+    for i in from..text.len() {
         if text[i] == 10 {
-            break;
+            return i;
         }
-        i += 1;
     }
-    i
+    text.len()
 }
 
 // A byte between words: space, tab, CR or LF.
@@ -33,6 +31,7 @@ fn past_comments(text: &[u8], from: usize) -> usize
     ensures { PastComments text.now from result }
 {
     let mut i = from;
+    // Stays a `while`: the step is a whole line, and not one.
     while i < text.len() {
         if text[i] != 99 {
             break;
@@ -59,6 +58,7 @@ pub fn seek(text: &[u8], from: usize, before: bool) -> Sought
 {
     let mut i = from;
     let mut first = before;
+    // Stays a `while`: behind an LF the step goes past comment lines, and is not one.
     while i < text.len() {
         let b = text[i];
         if !is_blank(b) {
@@ -88,6 +88,7 @@ pub struct Place {
 }
 
 // Behind one byte more.
+#[tactic(auto, unfolding(crate::specs::Places::place_on))]
 fn onward(p: Place, b: u8) -> Place
     requires { (p.line < 18446744073709551615) × (p.column < 18446744073709551615) }
     ensures { result ≡ place_on p.line p.column (b ∷ []) }
@@ -109,10 +110,8 @@ pub fn place_of(text: &[u8], at: usize) -> Place
     ensures { result ≡ text_place text.now at }
 {
     let mut place = Place { line: 1, column: 1 };
-    let mut i: usize = 0;
-    while i < at {
-        place = onward(place, text[i]);
-        i += 1;
+    for &b in &text[..at] {
+        place = onward(place, b);
     }
     place
 }

@@ -1,16 +1,11 @@
 -- What is told of the input that was read. What stands in it is no value here: a read may put any bytes.
-use Rattle.std.specs.Prelude.{◌≡◌, List, ℕ, ◌≤◌, length}
-use Rattle.text_input.specs.declared.Input.{Input}
-use Rattle.text_input.specs.declared.Input.TheVariants.{Whole, Larger, Unread}
+use Rattle.std.specs.Prelude.{◌≡◌, List, ℕ, ◌≤◌, length, Result, IfOk}
+use Rattle.text_input.specs.declared.InputError.{InputError}
 
 -- all of it are the first n bytes of the buffer
-abbrev pub InsideInput : List ℕ → Input → Type 0
-InsideInput buf (Whole n) = n ≤ length buf
-InsideInput buf Larger = Unit
-InsideInput buf (Unread reason) = Unit
+abbrev pub InsideInput : List ℕ → Result ℕ InputError → Type 0
+InsideInput buf r = IfOk r (λ n. n ≤ length buf)
 
 -- it has k bytes
-abbrev pub Long : ℕ → Input → Type 0
-Long k (Whole n) = n ≡ k
-Long k Larger = Unit
-Long k (Unread reason) = Unit
+abbrev pub Long : ℕ → Result ℕ InputError → Type 0
+Long k r = IfOk r (λ n. n ≡ k)

@@ -1,8 +1,9 @@
 // An input as one text, in memory of the program's own.
 #![tactic(auto)]
 
-ghost use Rattle.std.specs.Prelude.{◌≡◌, ◌+◌, ◌≤◌, length};
+ghost use Rattle.std.specs.Prelude.{◌≡◌, ◌≤◌, length, IfOk};
 ghost use Rattle.text_input.specs.Input.{InsideInput, Long};
+ghost use Rattle.text_input.specs.declared.InputError.TheVariants.{Unread};
 
 use std::io;
 use std::io::Read;
@@ -14,71 +15,51 @@ pub fn text_buffer() -> [u8; 1048576]
     [0; 1048576]
 }
 
-// The whole input, which is so long; or it is larger than the buffer; or a read failed, for this reason.
+// Why an input is not there: it is larger than the buffer; or a read failed, for this reason.
 #[derive(Clone, Copy)]
-pub enum Input {
-    Whole(usize),
+pub enum InputError {
     Larger,
     Unread(io::Error),
 }
 
-// How many bytes a read put, and why it failed if it did.
-#[derive(Clone, Copy)]
-struct Got {
-    pub count: usize,
-    pub failed: Option<io::Error>,
-}
+impl From<io::Error> for InputError {
+    ghost from_gives = { λ reason e. e ≡ Unread reason };
 
-// One read, into the buffer's bytes from `done` on.
-fn read_on<R: Read>(input: &mut R, buf: &mut [u8], done: usize) -> Got
-    requires { done ≤ length buf.old }
-    ensures { done + result.count ≤ length buf.old }
-{
-    match input.read(&mut buf[done..]) {
-        Ok(count) => Got {
-            count,
-            failed: None,
-        },
-        Err(reason) => Got {
-            count: 0,
-            failed: Some(reason),
-        },
+    fn from(reason: io::Error) -> InputError {
+        InputError::Unread(reason)
     }
 }
 
-// No byte came: the input has ended, or the read failed.
-fn ended(failed: Option<io::Error>, done: usize) -> Input
-    ensures { Long done result }
+// Reads on until no byte comes or the buffer is full: so many bytes came.
+fn read_on<R: Read>(input: &mut R, buf: &mut [u8]) -> io::Result<usize>
+    ensures { IfOk result (λ n. n ≤ length buf.new) }
 {
-    if let Some(reason) = failed {
-        return Input::Unread(reason);
+    let mut done = 0;
+    // Stays a `while`: the step is as long as the read was.
+    while done < buf.len() {
+        let count = input.read(&mut buf[done..])?;
+        if count == 0 {
+            break;
+        }
+        done += count;
     }
-    Input::Whole(done)
+    Ok(done)
 }
 
-// The buffer is full: the input is whole if no byte is left.
-fn filled<R: Read>(input: &mut R, done: usize) -> Input
-    ensures { Long done result }
+// The input ends behind so many bytes, unless they fill the buffer and a byte is left.
+fn ended<R: Read>(input: &mut R, full: bool, long: usize) -> Result<usize, InputError>
+    ensures { Long long result }
 {
-    let mut more = [0u8; 1];
-    let got = read_on(input, &mut more, 0);
-    if got.count == 0 {
-        return ended(got.failed, done);
+    if full && input.read(&mut [0u8; 1])? != 0 {
+        return Err(InputError::Larger);
     }
-    Input::Larger
+    Ok(long)
 }
 
-// Reads an input to its end.
-pub fn read_whole<R: Read>(input: &mut R, buf: &mut [u8]) -> Input
+// Reads an input to its end: how long it is.
+pub fn read_whole<R: Read>(input: &mut R, buf: &mut [u8]) -> Result<usize, InputError>
     ensures { InsideInput buf.new result }
 {
-    let mut done: usize = 0;
-    while done < buf.len() {
-        let got = read_on(input, buf, done);
-        if got.count == 0 {
-            return ended(got.failed, done);
-        }
-        done += got.count;
-    }
-    filled(input, done)
+    let done = read_on(input, buf)?;
+    ended(input, done == buf.len(), done)
 }

@@ -1,9 +1,9 @@
 -- Bytes as one number, for any number of bytes: taken apart, put together, added to, and read from a text.
-use Rattle.std.proofs.Common.{◌≡◌, ℕ, zero, suc, ◌+◌, ◌*◌, ◌/◌, ◌%◌, ◌^◌, ◌<◌, ◌≤◌, List, [], ◌∷◌, ◌++◌, length, get_or, take, replicate, refl, ap, ◌∙◌, add-zero, pow-suc, arith, get_or-drop, pow-add, shl_exact}
+use Rattle.std.proofs.Common.{◌≡◌, ℕ, zero, suc, ◌+◌, ◌*◌, ◌/◌, ◌%◌, ◌^◌, ◌<◌, ◌≤◌, List, [], ◌∷◌, ◌++◌, length, get_or, take, replicate, refl, ap, ◌∙◌, add-zero, pow-suc, arith, get_or-drop}
 use native.Mathlib.Nat.{one-le-pow}
-use lib.Arith.{digits_lt, mod-mul}
-use lib.Bits.{bit_or, or_shifted_r}
+use lib.Arith.{mod-mul}
 use lib.Seq.{slice, slice_empty, slice-cons}
+use Rattle.std.specs.Int.{w64, from_le_bytes}
 use Rattle.text_next.specs.Bytes.{little, bytes_of}
 
 -- every element is a byte; past the end there is 0
@@ -94,26 +94,11 @@ slice_listed text at j (suc k) h =
     slice-cons (at + j) (at + j + suc k) text 0 (omega arith) h
     ∙ rw (next, end) (ap (λ (l : List ℕ). get_or text (at + j) 0 ∷ l) (slice_listed text at (suc j) k (omega arith)))
 
--- bytes put above a number of k bits, of 64 in all
-abbrev above : ℕ → ℕ → List ℕ → ℕ
-above k a [] = a
-above k a (b ∷ bs) = above (k + 8) (bit_or a (b * 2 ^ k % 2 ^ 64)) bs
-
-above_is : (bs : List ℕ) (k a : ℕ) → a < 2 ^ k → Bytes bs → k + 8 * length bs ≤ 64 → above k a bs ≡ little bs * 2 ^ k + a
+pub eight_read : (text : List ℕ) (at x : ℕ) → at + 8 ≤ length text
+    → x ≡ from_le_bytes w64 (get_or text at 0 ∷ get_or text (at + 1) 0 ∷ get_or text (at + 2) 0 ∷ get_or text (at + 3) 0
+    ∷ get_or text (at + 4) 0 ∷ get_or text (at + 5) 0 ∷ get_or text (at + 6) 0 ∷ get_or text (at + 7) 0 ∷ [])
+    → x ≡ little (slice at (at + 8) text)
 unfolding little
-above_is [] k a l h f = omega arith
-above_is (b ∷ bs) k a l h f =
-    let up = pow-add 2 k 8 in
-    let put : bit_or a (b * 2 ^ k % 2 ^ 64) ≡ b * 2 ^ k + a = ap (bit_or a) (shl_exact 8 k 64 (h 0) (omega arith)) ∙ or_shifted_r b k a l in
-    let fits : b * 2 ^ k + a < 2 ^ (k + 8) = omega (arith, digits_lt (h 0) l) in
-    rw put (above_is bs (k + 8) (b * 2 ^ k + a) fits (λ i. h (suc i)) (omega arith) ∙ rw up (omega arith))
-
-pub eight_read : (text : List ℕ) (at : ℕ) → at + 8 ≤ length text → Bytes text → {a b c d e f g h : ℕ}
-    → a ≡ get_or text at 0 → b ≡ get_or text (at + 1) 0 → c ≡ get_or text (at + 2) 0 → d ≡ get_or text (at + 3) 0
-    → e ≡ get_or text (at + 4) 0 → f ≡ get_or text (at + 5) 0 → g ≡ get_or text (at + 6) 0 → h ≡ get_or text (at + 7) 0
-    → above 8 a (b ∷ c ∷ d ∷ e ∷ f ∷ g ∷ h ∷ []) ≡ little (slice at (at + 8) text)
-unfolding little
-eight_read text at room bytes pa pb pc pd pe pf pg ph =
+eight_read text at x room e =
     let same = rw (add-zero at) at (slice_listed text at 0 8 (omega arith)) in
-    let own = rw same at (bytes_slice at (at + 8) text bytes) in
-    rw (pa, pb, pc, pd, pe, pf, pg, ph, same) (above_is (listed text at 1 7) 8 (get_or text at 0) (own 0) (λ i. own (suc i)) (omega arith))
+    rw same (omega (arith, e))

@@ -1,28 +1,23 @@
 -- A short word that is a number: digits, perhaps behind a minus, and a blank behind them. A minus is read as the digit 0, which changes nothing of what
 -- the digits behind it say.
-use Rattle.std.proofs.Common.{◌≡◌, ℕ, ◌+◌, ◌-◌, ◌*◌, ◌%◌, ◌^◌, ◌<◌, ◌≤◌, Bool, true, false, cond, ◌&&◌, eqb, leb, List, ◌∷◌, ◌++◌, length, get_or, replicate, sym, refl, ap, ◌∙◌, add-one, arith, ne_eqb, eqb-true, leb-true}
+use Rattle.std.proofs.Common.{◌≡◌, ℕ, ◌+◌, ◌-◌, ◌*◌, ◌%◌, ◌<◌, ◌≤◌, Bool, true, false, eqb, List, ◌∷◌, ◌++◌, length, get_or, replicate, sym, refl, ap, ◌∙◌, add-one, arith, eqb-true}
+use Rattle.std.specs.Prelude.{Some}
+use Rattle.std.specs.Int.{from_bool}
 use lib.Seq.{slice, slice-cons, slice_empty, length-slice}
 use borrow.Author.Tests.{eqb-false}
 use Rattle.rules.specs.Lists.{all_pass}
-use Rattle.rules.proofs.Lists.{by_cases, true-false, from_index, and_left, and_right, all_split}
+use Rattle.rules.proofs.Lists.{true-false, from_index, all_split}
 use Rattle.text.specs.Words.{is_blank}
 use Rattle.text.specs.Places.{word_at}
 use Rattle.text.proofs.Slices.{slice_join}
 use Rattle.text_numbers.specs.Numbers.{is_decimal, said_on}
 use Rattle.text_numbers.specs.Told.{ends_word, NumeralTold}
-use Rattle.text_numbers.specs.declared.Numeral.TheVariants.{Number}
 use Rattle.text_numbers.proofs.Saying.{numeral_whole}
 use Rattle.text_numbers.proofs.Signs.{minus_told, plain_told}
 use Rattle.text_next.specs.Bytes.{little, bytes_of, is_small, digits_of, LastDigits}
-use Rattle.text_next.specs.Next.{QuickTold}
+use Rattle.text_next.specs.Next.{QuickSaid}
 use Rattle.text_next.proofs.Bytes.{Bytes, bytes_cons, bytes_slice, bytes_front}
 use Rattle.text_next.proofs.Digits.{all_digits, small_decimal, zeros_said}
-
--- 3 more than a minus is a byte too
-pub sign_fits : (x sign : ℕ) → x < 2 ^ 64 → sign ≡ cond (eqb (x % 256) 45) 1 0 → x + 3 * sign < 2 ^ 64
-sign_fits x sign h s = by_cases (eqb (x % 256) 45)
-    (λ t. let one : sign ≡ 1 = s ∙ rw t in omega (arith, eqb-true (x % 256) 45 t))
-    (λ f. let none-there : sign ≡ 0 = s ∙ rw f in omega arith)
 
 -- x is eight bytes of a text, of which n are looked at
 module _ (text : List ℕ) (at x n : ℕ) (room : at + 8 ≤ length text) (bytes : Bytes text) (q : x ≡ little (slice at (at + 8) text))
@@ -78,7 +73,7 @@ module _ (text : List ℕ) (at x n : ℕ) (room : at + 8 ≤ length text) (bytes
           let all = ap (all_pass is_decimal) (sym d) ∙ small_decimal (bytes_of 8 e) a in
           (all_split is_decimal (replicate i 48) own (all_split is_decimal (replicate (8 - n) 48) (replicate i 48 ++ own) all).1).1
 
-      short_numeral : is_blank (get_or text (at + n) 0) ≡ true → (at + n ≡ s → ⊥) → NumeralTold (word_at s text) s (Number v (at + n))
+      short_numeral : is_blank (get_or text (at + n) 0) ≡ true → (at + n ≡ s → ⊥) → NumeralTold (word_at s text) s (Some (record { value = v; end = at + n }))
       short_numeral b =
           numeral_whole text s v (at + n) (record { low = low; high = omega arith; all = own_digits; value = omega (arith, own_value, said.1) })
           (ap ends_word (from_index text (at + n) 0 (omega arith)) ∙ b)
@@ -88,28 +83,21 @@ module _ (text : List ℕ) (at x n : ℕ) (room : at + 8 ≤ length text) (bytes
     unfolding said_on
     lone_minus w h z = omega (arith, w ∙ ap (λ (j : ℕ). said_on 0 (slice (at + 1) j text)) z ∙ ap (said_on 0) (slice_empty (at + 1) text))
 
-    pub quick_told : (minus : Bool) (sign : ℕ) → eqb (x % 256) 45 ≡ minus → sign ≡ cond minus 1 0 → LastDigits (x + 3 * sign) bits e
-        → QuickTold (word_at at text) at (record { number = is_blank (get_or text (at + n) 0) && leb sign v; minus = minus; value = v; end = at + n })
-    quick_told true sign m o l = record {
-      number = λ t.
-          let b = and_left (is_blank (get_or text (at + n) 0)) (leb sign v) t in
-          let k = no_zero t in
-          let minus = eqb-true (x % 256) 45 m in
-          let d = all_digits (x + 3 * sign) bits e n some_byte few place l a (minus_front sign o minus) in
-          let numeral = short_numeral 1 (at + 1) (omega arith) d b (lone_minus (own_value 1 (at + 1) (omega arith) d) k) in
-          (minus_told text at (omega arith) (sym first_byte ∙ minus) numeral).number (rw (ne_eqb v 0 (λ z. omega arith)));
-      small = λ t. said.1;
-      signed = λ t m. no_zero t;
-    }
-      where
-        no_zero : (is_blank (get_or text (at + n) 0) && leb sign v) ≡ true → 0 < v
-        no_zero t = omega (arith, leb-true sign v (and_right (is_blank (get_or text (at + n) 0)) (leb sign v) t))
-    quick_told false sign m o l = record {
-      number = λ t.
-          let b = and_left (is_blank (get_or text (at + n) 0)) (leb sign v) t in
-          let d = all_digits (x + 3 * sign) bits e n some_byte few place l a (plain_front sign o) in
-          (plain_told text at (omega arith) (λ z. eqb-false (x % 256) 45 m (first_byte ∙ z))
-          (short_numeral 0 at (omega arith) d b (λ z. omega arith))).number refl;
-      small = λ t. said.1;
-      signed = λ t m. true-false m refl;
-    }
+    pub quick_told : (minus : Bool) (sign : ℕ) → eqb (x % 256) 45 ≡ minus → sign ≡ from_bool minus → LastDigits (x + 3 * sign) bits e
+        → is_blank (get_or text (at + n) 0) ≡ true → sign ≤ v → QuickSaid (word_at at text) at (record { minus = minus; value = v; end = at + n })
+    quick_told true sign m o l b k =
+        let minus = eqb-true (x % 256) 45 m in
+        let d = all_digits (x + 3 * sign) bits e n some_byte few place l a (minus_front sign o minus) in
+        let numeral = short_numeral 1 (at + 1) (omega arith) d b (lone_minus (own_value 1 (at + 1) (omega arith) d) (omega arith)) in
+        record {
+          number = minus_told text at (omega arith) (sym first_byte ∙ minus) numeral (λ z. omega arith);
+          small = said.1;
+          signed = λ t. omega arith;
+        }
+    quick_told false sign m o l b k =
+        let d = all_digits (x + 3 * sign) bits e n some_byte few place l a (plain_front sign o) in
+        record {
+          number = plain_told text at (omega arith) (λ z. eqb-false (x % 256) 45 m (first_byte ∙ z)) (short_numeral 0 at (omega arith) d b (λ z. omega arith));
+          small = said.1;
+          signed = λ t. true-false t refl;
+        }

@@ -1,5 +1,5 @@
 -- What is told of the next word of a text, which may be a number.
-use Rattle.std.specs.Prelude.{◌≡◌, ℕ, ◌+◌, ◌<◌, ◌≤◌, true, false, List, [], ◌∷◌, length}
+use Rattle.std.specs.Prelude.{◌≡◌, ℕ, ◌+◌, ◌<◌, ◌≤◌, true, false, List, [], ◌∷◌, length, Option, IfSome}
 use Rattle.std.proofs.Math.Option.{some}
 use Rattle.text.specs.Words.{words_from}
 use Rattle.text.specs.Places.{word_at}
@@ -10,11 +10,15 @@ use Rattle.text_next.specs.declared.NextWord.{NextWord}
 
 -- ---- a short word
 
--- a number below 10^8 is told, and never -0; else nothing
-pub record QuickTold (w : List ℕ) (at : ℕ) (r : Integer) : Type 0 where
-  pub number : r.number ≡ true → (n : ℕ) × (integer_of w ≡ some (with_sign r.minus n)) × (r.value ≡ capped n) × (r.end ≡ at + length w)
-  pub small : r.number ≡ true → r.value < 100000000
-  pub signed : r.number ≡ true → r.minus ≡ true → 0 < r.value
+-- a number below 10^8 is told, and never -0
+pub record QuickSaid (w : List ℕ) (at : ℕ) (r : Integer) : Type 0 where
+  pub number : (n : ℕ) × (integer_of w ≡ some (with_sign r.minus n)) × (r.value ≡ capped n) × (r.end ≡ at + length w)
+  pub small : r.value < 100000000
+  pub signed : r.minus ≡ true → 0 < r.value
+
+-- else nothing
+abbrev pub QuickTold : List ℕ → ℕ → Option Integer → Type 0
+QuickTold w at r = IfSome r (QuickSaid w at)
 
 -- ---- the next word behind a word
 

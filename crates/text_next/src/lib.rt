@@ -2,7 +2,7 @@
 // as one number of 64 bits, with no loop and no branch on what they say, so that a processor need not guess.
 #![tactic(auto)]
 
-ghost use Rattle.std.specs.Prelude.{◌≡◌, ◌+◌, ◌<◌, ◌≤◌, true, length, if◌then◌else◌};
+ghost use Rattle.std.specs.Prelude.{◌≡◌, ◌+◌, ◌<◌, ◌≤◌, true, length};
 ghost use Rattle.std.proofs.Math.Seq.{slice};
 ghost use Rattle.rules.specs.Lists.{all_pass};
 ghost use Rattle.text.specs.Places.{word_at, Behind};
@@ -12,25 +12,21 @@ ghost use Rattle.text_next.specs.Next.{QuickTold, NextTold};
 
 use text_numbers::Integer;
 
-fn bit(b: bool) -> u64
-    ensures { (result ≡ (if b then 1 else 0)) × (result ≤ 1) }
-{
-    if b { 1 } else { 0 }
-}
-
 // Eight bytes as one number, the first of them the least significant.
 fn eight(text: &[u8], at: usize) -> u64
     requires { at + 8 ≤ length text.now }
     ensures { result ≡ little (slice at (at + 8) text.now) }
 {
-    text_numbers::wide(text[at])
-        | (text_numbers::wide(text[at + 1]) << 8)
-        | (text_numbers::wide(text[at + 2]) << 16)
-        | (text_numbers::wide(text[at + 3]) << 24)
-        | (text_numbers::wide(text[at + 4]) << 32)
-        | (text_numbers::wide(text[at + 5]) << 40)
-        | (text_numbers::wide(text[at + 6]) << 48)
-        | (text_numbers::wide(text[at + 7]) << 56)
+    u64::from_le_bytes([
+        text[at],
+        text[at + 1],
+        text[at + 2],
+        text[at + 3],
+        text[at + 4],
+        text[at + 5],
+        text[at + 6],
+        text[at + 7],
+    ])
 }
 
 // Of eight bytes the first that is below 33, as every blank is: the place of its highest bit, which is 8 times its own and 7 more; 64 where none is.
@@ -39,7 +35,7 @@ fn low_bit(x: u64) -> u64
     ensures { result ≡ low_bit (bytes_of 8 x) }
 {
     let taken = std::num::wrapping_sub_u64(x, 0x2121212121212121);
-    u64::trailing_zeros(taken & (u64::MAX - x) & 0x8080808080808080) as u64
+    u64::from((taken & (u64::MAX - x) & 0x8080808080808080).trailing_zeros())
 }
 
 // Of eight bytes those before the place of that bit, as the last of eight: with 48, the digit 0, taken from each, and 0 before them.
@@ -69,26 +65,24 @@ fn said_by(e: u64) -> u64
 }
 
 // A word of at most seven bytes, and a blank behind it, as a number; nothing is told of any other. A minus is 3 less than the digit 0.
-pub fn quick(text: &[u8], at: usize) -> Integer
+pub fn quick(text: &[u8], at: usize) -> Option<Integer>
     requires { at + 8 ≤ length text.now }
     ensures { QuickTold (word_at at text.now) at result }
 {
     let x = eight(text, at);
     let bits = low_bit(x);
     let minus = x % 256 == 45;
-    let sign = bit(minus);
+    let sign = u64::from(minus);
     let e = last_digits(x + 3 * sign, bits);
     if (bits < 8) | (63 < bits) | !are_digits(e) {
-        return text_numbers::no_integer();
+        return None;
     }
     let value = said_by(e);
     let end = at + (bits / 8) as usize;
-    Integer {
-        number: text::is_blank(text[end]) & (sign <= value),
-        minus,
-        value,
-        end,
+    if !text::is_blank(text[end]) | (value < sign) {
+        return None;
     }
+    Some(Integer { minus, value, end })
 }
 
 // Where the next word starts, or the text's length; whether it is the first of its line; and the number that it is.
@@ -96,7 +90,7 @@ pub fn quick(text: &[u8], at: usize) -> Integer
 pub struct NextWord {
     pub at: usize,
     pub first: bool,
-    pub read: Integer,
+    pub read: Option<Integer>,
 }
 
 // Any next word.
@@ -106,34 +100,15 @@ fn next_of_any(text: &[u8], from: usize) -> NextWord
 {
     let w = text::seek(text, from, false);
     let at = w.at;
-    if at == text.len() {
-        return NextWord {
-            at,
-            first: w.first,
-            read: text_numbers::no_integer(),
-        };
-    }
+    let read = if at == text.len() {
+        None
+    } else {
+        text_numbers::read_integer(text, at)
+    };
     NextWord {
         at,
         first: w.first,
-        read: text_numbers::read_integer(text, at),
-    }
-}
-
-// The same, field by field: what is handed on like this need not lie in memory, where the other way to it would have to put it too.
-fn copied(w: NextWord) -> NextWord
-    ensures { result ≡ w }
-{
-    let read = w.read;
-    NextWord {
-        at: w.at,
-        first: w.first,
-        read: Integer {
-            number: read.number,
-            minus: read.minus,
-            value: read.value,
-            end: read.end,
-        },
+        read,
     }
 }
 
@@ -145,7 +120,7 @@ pub fn next_word(text: &[u8], from: usize) -> NextWord
     if 9 <= text.len() - from {
         let at = from + 1;
         let read = quick(text, at);
-        if read.number {
+        if read.is_some() {
             return NextWord {
                 at,
                 first: text[from] == 10,
@@ -153,6 +128,5 @@ pub fn next_word(text: &[u8], from: usize) -> NextWord
             };
         }
     }
-    let w = next_of_any(text, from);
-    copied(w)
+    next_of_any(text, from)
 }

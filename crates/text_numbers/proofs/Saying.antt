@@ -7,6 +7,7 @@ use Prim.Native.Nat.{ℕ, ◌+◌, ◌-◌, ◌*◌, ◌≤◌, ◌<◌}
 use native.Mathlib.Omega.{arith}
 use lib.Dec.{ltb, leb}
 use native.Mathlib.Decide.{dec_lt}
+use Rattle.std.specs.Prelude.{Some}
 use lib.ListN.{length, get_or, drop, drop_of_length-le}
 use lib.Seq.{slice, slice_empty, length-slice}
 use borrow.Author.Tests.{ne_eqb, leb-true, ltb-true}
@@ -17,7 +18,6 @@ use Rattle.text.specs.Places.{word_bytes, word_at}
 use Rattle.text.proofs.Slices.{slice_snoc, slice_drop}
 use Rattle.text_numbers.specs.Numbers.{is_decimal, said_on, natural_of}
 use Rattle.text_numbers.specs.Told.{capped, ends_word, Saying, NumeralTold}
-use Rattle.text_numbers.specs.declared.Numeral.TheVariants.{Number}
 
 -- ---- one digit more
 
@@ -122,6 +122,6 @@ module _ (text : List ℕ) (at v end : ℕ) (d : Saying text at v end) where
     whole_number : (end ≡ at → ⊥) → natural_of (word_at at text) ≡ some (said_on 0 (slice at end text))
     whole_number e = ap natural_of word_whole ∙ natural (slice at end text) (omega (arith, d.low, length-slice at end text d.high)) d.all
 
-    pub numeral_whole : (end ≡ at → ⊥) → NumeralTold (word_at at text) at (Number v end)
+    pub numeral_whole : (end ≡ at → ⊥) → NumeralTold (word_at at text) at (Some (record { value = v; end = end }))
     numeral_whole e =
         (said_on 0 (slice at end text), whole_number e, d.value, omega (arith, ap length word_whole, length-slice at end text d.high, d.low))

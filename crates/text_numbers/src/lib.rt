@@ -1,7 +1,7 @@
 // Words that are numbers, of any length: no string of digits wraps.
 #![tactic(auto)]
 
-ghost use Rattle.std.specs.Prelude.{◌≡◌, false, ℕ, ◌+◌, ◌*◌, ◌≤◌, ◌<◌, length, get_or, drop};
+ghost use Rattle.std.specs.Prelude.{◌≡◌, ℕ, ◌+◌, ◌*◌, ◌≤◌, ◌<◌, length, get_or, drop};
 ghost use Rattle.text.specs.Places.{word_at};
 ghost use Rattle.text_numbers.specs.Numbers.{is_decimal};
 ghost use Rattle.text_numbers.specs.Told.{capped, ends_word, Decimals, NumeralTold, IntegerTold};
@@ -26,33 +26,28 @@ pub fn is_digit(b: u8) -> bool
 
 // What digits say, and where they end.
 #[derive(Clone, Copy)]
-pub struct SaidDigits {
+pub struct Numeral {
     pub value: u64,
     pub end: usize,
 }
 
-pub fn wide(b: u8) -> u64
-    ensures { result ≡ b }
-{
-    b as u64
-}
-
 // The digits from a place on.
-fn digits(text: &[u8], from: usize) -> SaidDigits
+fn digits(text: &[u8], from: usize) -> Numeral
     requires { from ≤ length text.now }
     ensures { Decimals text.now from result }
 {
     let mut value: u64 = 0;
-    let mut i = from;
-    while i < text.len() {
+    for i in from..text.len() {
         let b = text[i];
         if !is_digit(b) {
-            break;
+            return Numeral { value, end: i };
         }
-        value = grown(value, wide(b) - 48);
-        i += 1;
+        value = grown(value, u64::from(b - 48));
     }
-    SaidDigits { value, end: i }
+    Numeral {
+        value,
+        end: text.len(),
+    }
 }
 
 // Whether no byte of a word stands at the place.
@@ -67,79 +62,55 @@ pub fn is_behind(text: &[u8], at: usize) -> bool
 }
 
 // A word that is a number: its value, and where the word ends.
-#[derive(Clone, Copy)]
-pub enum Numeral {
-    Number(u64, usize),
-    NoNumber,
-}
-
-pub fn read_numeral(text: &[u8], at: usize) -> Numeral
+pub fn read_numeral(text: &[u8], at: usize) -> Option<Numeral>
     requires { at ≤ length text.now }
     ensures { NumeralTold (word_at at text.now) at result }
 {
     let d = digits(text, at);
-    let end = d.end;
-    if end == at {
-        return Numeral::NoNumber;
+    if d.end == at {
+        return None;
     }
-    if !is_behind(text, end) {
-        return Numeral::NoNumber;
+    if !is_behind(text, d.end) {
+        return None;
     }
-    Numeral::Number(d.value, end)
+    Some(d)
 }
 
-// A word that may be a number with a minus or without: whether it is one, and then its sign, its value, and where the word ends.
+// A word that is a number with a minus or without: its sign, its value, and where the word ends.
 #[derive(Clone, Copy)]
 pub struct Integer {
-    pub number: bool,
     pub minus: bool,
     pub value: u64,
     pub end: usize,
 }
 
-pub fn no_integer() -> Integer
-    ensures { result.number ≡ false }
-{
-    Integer {
-        number: false,
-        minus: false,
-        value: 0,
-        end: 0,
-    }
-}
-
 // A word that starts with a minus: there is no -0.
-fn read_minus(text: &[u8], at: usize) -> Integer
+fn read_minus(text: &[u8], at: usize) -> Option<Integer>
     requires { (at < length text.now) × (get_or text.now at 0 ≡ 45) }
     ensures { IntegerTold (word_at at text.now) at result }
 {
-    let look = read_numeral(text, at + 1);
-    match look {
-        Numeral::Number(value, end) => Integer {
-            number: value != 0,
-            minus: true,
-            value,
-            end,
-        },
-        Numeral::NoNumber => no_integer(),
+    let n = read_numeral(text, at + 1)?;
+    if n.value == 0 {
+        return None;
     }
+    Some(Integer {
+        minus: true,
+        value: n.value,
+        end: n.end,
+    })
 }
 
-pub fn read_integer(text: &[u8], at: usize) -> Integer
+pub fn read_integer(text: &[u8], at: usize) -> Option<Integer>
     requires { at < length text.now }
     ensures { IntegerTold (word_at at text.now) at result }
 {
     if text[at] == 45 {
         return read_minus(text, at);
     }
-    let look = read_numeral(text, at);
-    match look {
-        Numeral::Number(value, end) => Integer {
-            number: true,
-            minus: false,
-            value,
-            end,
-        },
-        Numeral::NoNumber => no_integer(),
-    }
+    let n = read_numeral(text, at)?;
+    Some(Integer {
+        minus: false,
+        value: n.value,
+        end: n.end,
+    })
 }

@@ -20,17 +20,14 @@ fn put_reason(reason: io::Error, text: &mut [u8]) -> usize
 fn words_end(text: &[u8]) -> usize
     ensures { result ≤ length text.now }
 {
-    let mut at = text.len();
-    while at > 0 {
-        at -= 1;
-        if text[at] == b'(' {
-            return at.saturating_sub(1);
-        }
+    match text.iter().rposition(|b| *b == b'(') {
+        Some(at) => at.saturating_sub(1),
+        None => text.len(),
     }
-    text.len()
 }
 
-fn say(rt: &HostRuntime, words: &[u8]) {
+// Words on standard error. One write that failed keeps none of those behind it from being tried.
+pub fn say(rt: &HostRuntime, words: &[u8]) {
     let _ = rt.stderr().write_all(words);
 }
 
@@ -38,10 +35,11 @@ fn say(rt: &HostRuntime, words: &[u8]) {
 pub fn fail(rt: &HostRuntime, what: &[u8], reason: io::Error) {
     let mut text = [0u8; 256];
     let put = put_reason(reason, &mut text);
-    let mut end = put;
-    if reason.raw_os_error().is_some() {
-        end = words_end(&text[..put]);
-    }
+    let end = if reason.raw_os_error().is_some() {
+        words_end(&text[..put])
+    } else {
+        put
+    };
     say(rt, what);
     say(rt, b": ");
     say(rt, &text[..end]);

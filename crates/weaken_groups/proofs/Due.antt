@@ -12,15 +12,15 @@ use Rattle.rules.specs.Terms.{Literals, opposes, Held}
 use Rattle.rules.specs.Propagation.{Allowed}
 use Rattle.rules.specs.Frames.{needs_group}
 use Rattle.rules.specs.Answers.{groups}
+use Rattle.rules.specs.declared.Fault.{Fault}
 use Rattle.rules.specs.declared.Fault.TheVariants.{Group}
-use Rattle.rules.specs.declared.Check.{Check}
-use Rattle.rules.specs.declared.Check.TheVariants.{Passed, Failed}
+use Rattle.rules.specs.Results.{Check}
+use Rattle.std.specs.Prelude.{Result, Ok, Err}
 use Rattle.rules.proofs.Lists.{from_index, by_cases}
 use Rattle.table.specs.Spelled.{Row, row_at, id_of, place_of, clause_part, held, Rising}
 use Rattle.judge_propagate.specs.Scope.{irredundant_but, permits}
 use Rattle.judge_propagate.proofs.Scopes as scopes
 use Rattle.weaken_groups.specs.Groups.{others, is_due, groups_at, onward, Grouped}
-use Rattle.weaken_groups.specs.declared.Onward.{Onward}
 
 -- ---- one row, by the tests in their order
 
@@ -65,7 +65,7 @@ module _ (i : ℕ) (pool : List ℤ) (W : Literals) where
   module _ (A : Allowed) (c : List ℤ) (from : ℕ) (ws : List ℤ) (rows : List Row) (whole : Check) (d at : ℕ)
       (far : whole ≡ groups_at A c W from ws (due (drop d rows)) at) where
     module _ (h : d < length rows) where
-      pub judged : is_due i pool W (row_at rows d) ≡ true → (r : Onward) → Grouped A c W from ws (held pool (row_at rows d)) at r
+      pub judged : is_due i pool W (row_at rows d) ≡ true → (r : Result ℕ Fault) → Grouped A c W from ws (held pool (row_at rows d)) at r
           → whole ≡ onward r (groups_at A c W from ws (due (drop (d + 1) rows)))
       unfolding only
       judged t r g = let e = from_index rows d [] h in (rw (e, t) at far) ∙ g.says (due (drop (d + 1) rows))
@@ -79,10 +79,10 @@ module _ (i : ℕ) (pool : List ℤ) (W : Literals) where
       unfolding only
       none_left = let e = drop_of_length-le rows h in rw e at far
 
-      pub words_left : at < length ws → Failed (Group (from + at)) ≡ whole
+      pub words_left : at < length ws → Err (Group (from + at)) ≡ whole
       unfolding groups
       words_left l = let e = from_index ws at (pos 0) l in let q = none_left in sym (rw e at q)
 
-      pub all_judged : length ws ≤ at → Passed ≡ whole
+      pub all_judged : length ws ≤ at → Ok tt ≡ whole
       unfolding groups
       all_judged l = let e = drop_of_length-le ws l in let q = none_left in sym (rw e at q)

@@ -1,16 +1,9 @@
 // The program: tables of its own, opened and served standard input.
 #![tactic(auto)]
 
-ghost use Rattle.std.specs.Prelude.{◌≡◌, length};
 ghost use Rattle.zahrubel.specs.Opens.{Opens};
 
 use lent::Carried;
-
-fn vacant_pool() -> [i32; 8192]
-    ensures { length result ≡ 8192 }
-{
-    [0i32; 8192]
-}
 
 // What is carried when the tables are opened.
 fn open() -> Carried
@@ -22,6 +15,6 @@ fn open() -> Carried
 
 fn main(rt: HostRuntime) {
     let mut entries = lent_entries::vacant_entries();
-    let mut pool = vacant_pool();
+    let mut pool = [0i32; 8192];
     call_serve::serve(&rt, &mut entries, &mut pool, open());
 }

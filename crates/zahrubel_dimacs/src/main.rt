@@ -4,23 +4,19 @@
 
 ghost use Rattle.std.specs.Prelude.{◌≡◌, ◌≤◌, length};
 
-use dimacs_frames::{Cursor, Yield};
-use dimacs_print::Filled;
-use text_input::Input;
+use dimacs_frames::{Cursor, YieldError};
+use std::io;
+use text_input::InputError;
+use trouble::say;
 
 // ---- what is said on standard error
 
-fn say(rt: &HostRuntime, words: &[u8]) {
-    let _ = rt.stderr().write_all(words);
-}
-
-fn say_end(rt: &HostRuntime, text: &[u8], told: Yield) {
-    match told {
-        Yield::Frame(_, _) => (),
-        Yield::NoneLeft => (),
-        Yield::Faulty(fault) => dimacs_say::say_fault(rt, b"zahrubel: line ", text, fault),
-        Yield::NoBuffer => (),
-        Yield::NoId => say(
+// Why there are no lines more, where it is not that none are left. The buffer has enough words.
+fn say_why(rt: &HostRuntime, text: &[u8], why: YieldError) {
+    match why {
+        YieldError::Faulty(fault) => dimacs_say::say_fault(rt, b"zahrubel: line ", text, fault),
+        YieldError::NoBuffer => (),
+        YieldError::NoId => say(
             rt,
             b"zahrubel: the text has more clauses than there are ids\n",
         ),
@@ -28,17 +24,6 @@ fn say_end(rt: &HostRuntime, text: &[u8], told: Yield) {
 }
 
 // ---- the lines
-
-// A write that failed is said: without it frames would be lost in silence.
-fn send(rt: &HostRuntime, lines: &[u8]) -> bool {
-    match rt.stdout().write_all(lines) {
-        Ok(()) => true,
-        Err(reason) => {
-            trouble::fail(rt, b"zahrubel: cannot write the frames", reason);
-            false
-        }
-    }
-}
 
 // Room for the longest frame.
 fn frame_buffer() -> [i32; 258]
@@ -48,26 +33,29 @@ fn frame_buffer() -> [i32; 258]
 }
 
 // Prints a text's frames to the last, or says why there are none.
-fn print_text(rt: &HostRuntime, text: &[u8]) {
+fn print_text(rt: &HostRuntime, text: &[u8]) -> io::Result<()> {
     let mut frame = frame_buffer();
     let mut out = [0u8; 65536];
     let mut cursor = Cursor { at: 0, id: 0 };
+    // A `loop` and not a `for`: it ends where the text has no frame left, and no count is known before.
     loop {
         let filled = dimacs_print::fill(text, cursor, &mut frame, &mut out);
-        match filled {
-            Filled::More(at, behind) => {
-                if !send(rt, &out[..at]) {
-                    return;
-                }
-                cursor = behind;
-            }
-            Filled::Ended(at, told) => {
-                if send(rt, &out[..at]) {
-                    say_end(rt, text, told);
-                }
-                return;
+        rt.stdout().write_all(&out[..filled.at])?;
+        match filled.onward {
+            Ok(Some(behind)) => cursor = behind,
+            Ok(None) => return Ok(()),
+            Err(why) => {
+                say_why(rt, text, why);
+                return Ok(());
             }
         }
+    }
+}
+
+// A write that failed is said: without it frames would be lost in silence.
+fn print_whole(rt: &HostRuntime, text: &[u8]) {
+    if let Err(reason) = print_text(rt, text) {
+        trouble::fail(rt, b"zahrubel: cannot write the frames", reason);
     }
 }
 
@@ -75,11 +63,15 @@ fn main(rt: HostRuntime) {
     let mut buf = text_input::text_buffer();
     let input = text_input::read_whole(&mut rt.stdin(), &mut buf);
     match input {
-        Input::Whole(n) => print_text(&rt, &buf[..n]),
-        Input::Larger => say(
+        Ok(n) => print_whole(&rt, &buf[..n]),
+        Err(InputError::Larger) => say(
             &rt,
             b"zahrubel: the text is larger than 1,048,576 bytes, which is all that this program holds; the library takes any length\n",
         ),
-        Input::Unread(reason) => trouble::fail(&rt, b"zahrubel: cannot read the text", reason),
+        Err(InputError::Unread(reason)) => trouble::fail(
+            &rt,
+            b"zahrubel: cannot read the text",
+            reason,
+        ),
     }
 }

@@ -13,7 +13,8 @@ use std::fs::File;
 use std::io::IsTerminal;
 use std::os::unix::fs::FileTypeExt;
 use std::{fs, io};
-use text_input::Input;
+use text_input::InputError;
+use trouble::say;
 
 // Linux's numbers of reasons.
 const INVALID_ARGUMENT: i32 = 22;
@@ -21,10 +22,6 @@ const INVALID_ARGUMENT: i32 = 22;
 const NAME_TOO_LONG: i32 = 36;
 
 const ILLEGAL_BYTES: i32 = 84;
-
-fn say(rt: &HostRuntime, words: &[u8]) {
-    let _ = rt.stderr().write_all(words);
-}
 
 // ---- trouble: no digits stand before it
 
@@ -77,39 +74,20 @@ fn say_line(rt: &HostRuntime, line: u64) {
 }
 
 // What a person can act on.
-fn say_words(rt: &HostRuntime, code: u32) {
+fn words(code: u32) -> &'static [u8] {
     match code {
-        12 => say(
-            rt,
-            b"no entry is free; at most 1,024 clauses are held at a time\n",
-        ),
-        13 => say(
-            rt,
-            b"not enough literal words are free; at most 8,192 literals are held at a time\n",
-        ),
-        31 => say(
-            rt,
+        12 => b"no entry is free; at most 1,024 clauses are held at a time\n",
+        13 => b"not enough literal words are free; at most 8,192 literals are held at a time\n",
+        31 =>
             b"a malformed line; an addition is \"ID LITERALS 0 HINTS 0\", a deletion \"ID d IDS 0\"\n",
-        ),
-        32 => say(
-            rt,
-            b"a literal past the variable count that the rules declare\n",
-        ),
-        33 => say(
-            rt,
-            b"a clause that has a variable twice, or more than 256 literals\n",
-        ),
-        34 => say(
-            rt,
-            b"an added id that is not above those of the rules and all that were added before\n",
-        ),
-        35 => say(rt, b"a deleted id that is not held\n"),
-        36 => say(rt, b"a negative hint\n"),
-        37 => say(
-            rt,
+        32 => b"a literal past the variable count that the rules declare\n",
+        33 => b"a clause that has a variable twice, or more than 256 literals\n",
+        34 => b"an added id that is not above those of the rules and all that were added before\n",
+        35 => b"a deleted id that is not held\n",
+        36 => b"a negative hint\n",
+        37 =>
             b"a failed proof; a hint is not held, has a true literal or two open ones, or the hints are used up\n",
-        ),
-        _ => say(rt, b"refused\n"),
+        _ => b"refused\n",
     }
 }
 
@@ -130,7 +108,7 @@ fn say_refusal(rt: &HostRuntime, answer: LratAnswer) {
         return;
     }
     say_line(rt, answer.detail);
-    say_words(rt, answer.code);
+    say(rt, words(answer.code));
 }
 
 // ---- the verdict
@@ -205,9 +183,9 @@ fn read_rules(rt: &HostRuntime, terminal: &mut Option<File>, path: &[u8]) {
     let mut buf = text_input::text_buffer();
     let input = text_input::read_whole(&mut file, &mut buf);
     match input {
-        Input::Whole(n) => name_proof(rt, terminal, &buf[..n]),
-        Input::Larger => say_larger(rt, path),
-        Input::Unread(reason) => say_unread(rt, path, reason),
+        Ok(n) => name_proof(rt, terminal, &buf[..n]),
+        Err(InputError::Larger) => say_larger(rt, path),
+        Err(InputError::Unread(reason)) => say_unread(rt, path, reason),
     }
 }
 

@@ -7,4 +7,4 @@ pub feed-fed-requires : goal.feed-fed-requires
 feed-fed-requires c = start_feedable c.start-start.ensures (search rules) c.requires
 
 pub returns : goal.returns
-returns c = whole_told _ c.requires.vars_fit.1 _ (c.feed-fed.ensures.moved ∙ start_run c.start-start.ensures _ _ _) c.finish-ended.ensures.moved c.told.ensures
+returns c = whole_told _ c.requires.vars_fit.1 _ (c.feed-fed.ensures.moved ∙ start_run c.start-start.ensures c.empty-falses.ensures _ _ _) c.finish-ended.ensures.moved c.told.ensures

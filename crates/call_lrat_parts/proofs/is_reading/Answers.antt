@@ -25,5 +25,5 @@ returns c =
     rw (
       counted,
       ranged_in 2048 0 (take a.reader.line.count a.lits) (omega arith) (sym c.ranged.ensures
-          ∙ c.in-Passed.is),
+          ∙ c.in-Ok.is),
     ) refl

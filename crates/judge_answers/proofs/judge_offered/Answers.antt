@@ -1,29 +1,26 @@
 -- Each return cites the checks before it.
 use mathlib.Core.Path.{◌≡◌, sym, ◌∙◌}
-use Rattle.rules.specs.Answers.{assumed_true}
-use Rattle.rules.specs.declared.Check.TheVariants.{Passed}
-use Rattle.lit_sets.specs.Words.{assigned}
 use Rattle.table.proofs.Readers.{readable}
-use Rattle.judge_checks.proofs.Order.{goes_on, stops}
+use Rattle.judge_checks.proofs.Order.{goes_on, stops, handed_on}
 use Rattle.judge_checks.proofs.Stack.{stacked}
 use Rattle.judge_answers.proofs.judge_offered.Goals as goal
 
-pub returns-in-Failed : goal.returns-in-Failed
-returns-in-Failed c = sym (stops (sym c.assumed_true-wrong.ensures ∙ c.in-Failed.is) _)
+pub returns-in_err-assumed_true : goal.returns-in_err-assumed_true
+returns-in_err-assumed_true c =
+    handed_on _ _ c.from_residual.ensures.1 ∙ sym (stops (sym c.assumed_true.ensures ∙ c.in_err-assumed_true.was) _)
 
-pub cleanly-clean-requires : goal.cleanly-clean-requires
-cleanly-clean-requires c = (readable c.requires.0, stacked c.requires.0, c.requires.2)
+pub cleanly-requires : goal.cleanly-requires
+cleanly-requires c = (readable c.requires.0, stacked c.requires.0, c.requires.2)
 
-pub returns-in-Failed-clean : goal.returns-in-Failed-clean
-returns-in-Failed-clean c =
-    let hold : assumed_true (assigned c.args.offered.now) 2 c.args.assumed.now ≡ Passed = sym c.assumed_true-wrong.ensures ∙ c.in_default.is in
-    sym (goes_on hold _ ∙ stops (sym c.cleanly-clean.ensures ∙ c.in-Failed-clean.is) _)
+pub returns-in_err-cleanly : goal.returns-in_err-cleanly
+returns-in_err-cleanly c =
+    let hold = goes_on (sym c.assumed_true.ensures ∙ c.in_ok-assumed_true.was) _ in
+    handed_on _ _ c.from_residual-in_err-cleanly.ensures.1 ∙ sym (hold ∙ stops (sym c.cleanly.ensures ∙ c.in_err-cleanly.was) _)
 
 pub satisfied-requires : goal.satisfied-requires
 satisfied-requires c = readable c.requires.0
 
 pub returns : goal.returns
 returns c =
-    let hold : assumed_true (assigned c.args.offered.now) 2 c.args.assumed.now ≡ Passed = sym c.assumed_true-wrong.ensures ∙ c.in_default.is in
-    c.satisfied.ensures ∙ sym (goes_on hold _
-    ∙ goes_on (sym c.cleanly-clean.ensures ∙ c.in_default-clean.is) _)
+    let hold = goes_on (sym c.assumed_true.ensures ∙ c.in_ok-assumed_true.was) _ in
+    c.satisfied.ensures ∙ sym (hold ∙ goes_on (sym c.cleanly.ensures ∙ c.in_ok-cleanly.was) _)

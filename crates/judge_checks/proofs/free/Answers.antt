@@ -8,7 +8,7 @@ use lib.ListN.{length}
 use borrow.Author.Rules.{rules}
 use borrow.Author.Tests.{lt-ltb, le-ltb, le-leb, lt-leb}
 use Rattle.rules.specs.Answers.{◌then◌, need, free_entry, free_words}
-use Rattle.rules.specs.declared.Check.TheVariants.{Failed}
+use Rattle.std.specs.Prelude.{Ok, Err}
 use Rattle.rules.specs.declared.Fault.TheVariants.{NoEntry, NoWords}
 use Rattle.table.specs.Spelled.{Row, Fit, spelled}
 use Rattle.table.specs.declared.Table.{Table}
@@ -18,7 +18,7 @@ use Rattle.judge_checks.proofs.free.Goals as goal
 
 -- 12: the rows in use, less those whose clause is gone, are the clauses held
 module _ {t : Table} {rows : List Row} {pool : List ℤ} {stack : List ℕ} (f : Fit t rows pool stack) where
-  full : t.entries + t.gone ≤ t.count → free_entry (spelled t rows pool stack) ≡ Failed NoEntry
+  full : t.entries + t.gone ≤ t.count → free_entry (spelled t rows pool stack) ≡ Err NoEntry
   full h = free_entry_is f ∙ unmet (le-ltb (t.count - t.gone) t.entries (omega arith)) NoEntry
 
   -- then 13

@@ -5,4 +5,4 @@ use Rattle.judge_hints.proofs.Target.{less_nothing}
 use Rattle.judge_hints.proofs.falses_of.Goals as goal
 
 pub returns : goal.returns
-returns c = c.make_false.ensures ∙ less_nothing _ c.args.c.now zeros_empty
+returns c = c.make_false.ensures ∙ less_nothing _ c.args.c.now (rw (c.empty-nothing.ensures.0, c.empty-nothing.ensures.1) zeros_empty)

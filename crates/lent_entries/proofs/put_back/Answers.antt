@@ -21,23 +21,16 @@ five (r ∷ rows) (u ∷ us) h (suc k) l = five rows us h.1 k (omega arith)
 
 pub loop-k-preserved : goal.loop-k-preserved
 loop-k-preserved c =
-    let rows : List Row = c.args.rows in
-    let n = c.args.n in
     let k = c.loop-k.k in
-    let long : length rows ≡ 1280 = search rules in (
-      ap (λ (r : List Entry). set r k c.as_entry.result) c.loop-k.invariant.0
-          ∙ ap (set (copied entry_of rows n c.args.entries.now k) k) c.as_entry.ensures
-          ∙ copied_next entry_of rows n c.args.entries.now (omega arith) (omega arith) k [] c.loop-k-test.true,
-      omega arith,
-    )
+    let items = take c.args.n c.args.rows in
+    ap (λ (r : List Entry). set r k c.from.result) c.loop-k.invariant
+    ∙ ap (set (copied entry_of items c.args.entries.now k) k) c.from.ensures
+    ∙ copied_next entry_of items c.args.entries.now k _ (omega arith) (search rules)
 
 pub returns : goal.returns
 returns c =
     let rows : List Row = c.args.rows in
     let n = c.args.n in
-    let same : c.loop-k.k ≡ n = omega arith in
-    let long : length rows ≡ 1280 = search rules in
     let e : c.loop-k.entries ≡ over c.args.entries.now (map entry_of (take n rows)) =
-    c.loop-k.invariant.0 ∙ ap (copied entry_of rows n c.args.entries.now) same
-    ∙ copied_last entry_of rows n c.args.entries.now (omega arith) (omega arith) in
+    c.loop-k.invariant ∙ copied_last entry_of (take n rows) c.args.entries.now c.loop-k.k (omega arith) in
     (e, put_rows n rows (λ k u v. five rows _ c.well_formed.1.1.0.1.1 k v) c.args.entries.now c.loop-k.entries e)

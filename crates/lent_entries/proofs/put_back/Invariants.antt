@@ -1,11 +1,8 @@
 -- The first k rows are put back, as entries, over the table.
-use Rattle.std.proofs.Common.{◌≡◌, ◌≤◌, ◌-◌}
+use Rattle.std.proofs.Common.{◌≡◌}
 use Rattle.lent_entries.specs.Lent.{entry_of}
 use Rattle.lent_entries.proofs.Copying.{copied}
 use Rattle.lent_entries.proofs.put_back.Given as goal
 
 abbrev pub invariant-loop-k : goal.invariant-loop-k
-invariant-loop-k l = (l.entries ≡ copied entry_of l.rows l.n l.initial.entries l.k) × (l.k ≤ l.n)
-
-abbrev pub decreases-loop-k : goal.decreases-loop-k
-decreases-loop-k l = l.n - l.k
+invariant-loop-k l = l.entries ≡ copied entry_of l.row-items l.initial.entries l.k

@@ -1,13 +1,9 @@
--- `lent_lawful::are_right` meets its contract. The loop's invariant: those before k are right.
+-- The rows before k are right.
 use mathlib.Core.Path.{◌≡◌}
-use Prim.Native.Nat.{◌-◌, ◌≤◌}
-use lib.ListN.{length, drop}
+use lib.ListN.{drop}
 use Rattle.rules.specs.Lists.{all_pass}
 use Rattle.lent_lawful.specs.Rights.{right}
 use Rattle.lent_lawful.proofs.are_right.Given as goal
 
 abbrev pub invariant-loop-k : goal.invariant-loop-k
-invariant-loop-k l = (all_pass (right l.vars l.highest l.pool) l.rows ≡ all_pass (right l.vars l.highest l.pool) (drop l.k l.rows)) × (l.k ≤ length l.rows)
-
-abbrev pub decreases-loop-k : goal.decreases-loop-k
-decreases-loop-k l = length l.rows - l.k
+invariant-loop-k l = all_pass (right l.vars l.highest l.pool) l.rows ≡ all_pass (right l.vars l.highest l.pool) (drop l.k l.rows)

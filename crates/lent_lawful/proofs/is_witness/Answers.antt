@@ -10,15 +10,15 @@ returns-then-not-is_clause c =
     let a = c.args in
     sym (witness_no_clause a.vars a.lits.now a.witness.now (sym c.is_clause.ensures ∙ c.if-not-is_clause.true))
 
-pub mark-marks-requires : goal.mark-marks-requires
-mark-marks-requires c = clause_ranged c.args.vars c.args.witness.now c.requires.0 (sym c.is_clause.ensures ∙ c.if-not-is_clause.false)
+pub mark-set-requires : goal.mark-set-requires
+mark-set-requires c = clause_ranged c.args.vars c.args.witness.now c.requires.0 (sym c.is_clause.ensures ∙ c.if-not-is_clause.false)
 
 pub shares-requires : goal.shares-requires
 shares-requires c = clause_ranged c.args.vars c.args.lits.now c.requires.0 c.requires.1
 
 pub returns : goal.returns
 returns c =
-    let m = c.mark-marks.ensures in
+    let m = c.mark-set.ensures in
     let e = sym c.is_clause.ensures
     ∙ c.if-not-is_clause.false in
     c.shares.ensures ∙ ap (λ S. any_passes S c.args.lits.now) m ∙ sym (witness_shares c.args.vars c.args.lits.now c.args.witness.now e)

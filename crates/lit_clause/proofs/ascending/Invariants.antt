@@ -1,12 +1,9 @@
 -- Invariant: the whole check is the check of the words left, above the last variable.
 use mathlib.Core.Path.{◌≡◌}
-use Prim.Native.Nat.{◌+◌, ◌≤◌, ◌-◌}
-use lib.ListN.{length, drop}
+use Prim.Native.Nat.{◌+◌}
+use lib.ListN.{drop}
 use Rattle.rules.specs.Answers.{ascending}
 use Rattle.lit_clause.proofs.ascending.Given as goal
 
 abbrev pub invariant-loop-i : goal.invariant-loop-i
-invariant-loop-i l = (l.i ≤ length l.vs) × (ascending l.vars 0 l.at l.vs ≡ ascending l.vars l.last (l.at + l.i) (drop l.i l.vs))
-
-abbrev pub decreases-loop-i : goal.decreases-loop-i
-decreases-loop-i l = length l.vs - l.i
+invariant-loop-i l = ascending l.vars 0 l.at l.vs ≡ ascending l.vars l.last (l.at + l.i) (drop l.i l.vs)

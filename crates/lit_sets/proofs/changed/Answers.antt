@@ -2,7 +2,6 @@
 use mathlib.Core.Path.{refl}
 use Prim.Native.Nat.{◌*◌}
 use native.Mathlib.Omega.{arith}
-use borrow.Author.Rules.{rules}
 use lib.Bits.{bit_xor}
 use lib.ListN.{get_or}
 use Rattle.rules.specs.Answers.{differing}
@@ -13,7 +12,7 @@ use Rattle.lit_sets.proofs.changed.Goals as goal
 
 pub loop-i-init : goal.loop-i-init
 unfolding differing
-loop-i-init c = (search rules, refl)
+loop-i-init c = refl
 
 pub overflow_add-n : goal.overflow_add-n
 overflow_add-n c =
@@ -28,4 +27,4 @@ overflow_add-n c =
     }
 
 pub loop-i-preserved : goal.loop-i-preserved
-loop-i-preserved c = (search rules, omega (arith, word_more c.args.a.now c.args.b.now c.loop-i.i, c.bits_apart-n.ensures))
+loop-i-preserved c = omega (arith, word_more c.args.a.now c.args.b.now c.loop-i.i, c.bits_apart-n.ensures)

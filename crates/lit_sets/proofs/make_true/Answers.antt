@@ -1,11 +1,9 @@
 -- Invariant: the literals that are left, made true from here, give the whole.
 use mathlib.Core.Path.{◌≡◌, ◌∙◌, ap₂}
 use mathlib.Core.Bool.{true}
-use mathlib.Core.List.{List}
-use Prim.Native.Nat.{◌<◌}
 use borrow.Author.Rules.{rules}
-use lib.IntN.{ℤ, pos, nat_abs}
-use lib.ListN.{length, get_or}
+use lib.IntN.{pos, nat_abs}
+use lib.ListN.{get_or}
 use mir.Syntax.{w32}
 use mir.Val.{SFits}
 use Rattle.rules.specs.Terms.{in_range, upd}
@@ -18,32 +16,20 @@ use Rattle.lit_sets.proofs.make_true.Goals as goal
 
 pub variable-requires : goal.variable-requires
 variable-requires c =
-    let list : List ℤ = c.args.w.now in
-    let l : ℤ = get_or list c.loop-i.i (pos 0) in
-    let fits : SFits w32 l = record { sfits = c.l-1.given } in
-    let below : c.loop-i.i < length list = search rules in
-    let ranged : in_range 2048 l ≡ true = all_index (in_range 2048) list c.loop-i.i (pos 0) below c.requires in
-    variable_asked fits ranged
+    let fits : SFits w32 (get_or c.args.w.now c.loop-l.l-index (pos 0)) = search rules in
+    variable_asked fits (all_index (in_range 2048) _ _ _ c.loop-l-test.true c.requires)
 
 pub set_to-requires : goal.set_to-requires
 set_to-requires c =
-    let list : List ℤ = c.args.w.now in
-    let l : ℤ = get_or list c.loop-i.i (pos 0) in
-    let fits : SFits w32 l = record { sfits = c.l-1.given } in
-    let below : c.loop-i.i < length list = search rules in
-    let ranged : in_range 2048 l ≡ true = all_index (in_range 2048) list c.loop-i.i (pos 0) below c.requires in
-    variable_bounds fits ranged c.variable.ensures
+    let fits : SFits w32 (get_or c.args.w.now c.loop-l.l-index (pos 0)) = search rules in
+    variable_bounds fits (all_index (in_range 2048) _ _ _ c.loop-l-test.true c.requires) c.variable.ensures
 
-pub loop-i-preserved : goal.loop-i-preserved
-loop-i-preserved c =
-    let list : List ℤ = c.args.w.now in
-    let l : ℤ = get_or list c.loop-i.i (pos 0) in
-    let fits : SFits w32 l = record { sfits = c.l-1.given } in
-    let below : c.loop-i.i < length list = search rules in
-    let ranged : in_range 2048 l ≡ true = all_index (in_range 2048) list c.loop-i.i (pos 0) below c.requires in
-    let said-both = ap₂ (upd (assigned c.loop-i.out)) (said nat_abs fits c.variable.ensures)
-    (said is_natural fits c.is_not_negative.ensures) in
-    (search rules, made_on _ list _ c.loop-i.i c.loop-i.invariant.1 below ranged _ (c.set_to.ensures ∙ said-both))
+pub loop-l-preserved : goal.loop-l-preserved
+loop-l-preserved c =
+    let fits : SFits w32 (get_or c.args.w.now c.loop-l.l-index (pos 0)) = search rules in
+    let ranged : in_range 2048 (get_or c.args.w.now c.loop-l.l-index (pos 0)) ≡ true = all_index (in_range 2048) _ _ _ c.loop-l-test.true c.requires in
+    let said-both = ap₂ (upd (assigned c.loop-l.out)) (said nat_abs fits c.variable.ensures) (said is_natural fits c.is_not_negative.ensures) in
+    made_on _ c.args.w.now _ c.loop-l.l-index c.loop-l.invariant c.loop-l-test.true ranged _ (c.set_to.ensures ∙ said-both)
 
 pub returns : goal.returns
-returns c = made_end _ _ _ _ c.loop-i.invariant.1 c.loop-i-test.false
+returns c = made_end _ _ _ _ c.loop-l.invariant c.loop-l-test.false

@@ -18,7 +18,7 @@ use Rattle.lrat_feed.proofs.feed.Goals as goal
 pub loop-i-preserved-then-b-eq10 : goal.loop-i-preserved-then-b-eq10
 loop-i-preserved-then-b-eq10 c =
     let goes_on : c.with_word-reader.result.over ≡ false = ap (λ (r : ProofReader). r.over) c.with_word-reader.ensures ∙ c.if-reader.false in
-    let FeedingBy : ProofReader → Type 0 = λ r. Feeding (run (session_of c.args.r c.args.lits.now c.args.plus.now c.args.minus.now (spelled c.args.t c.args.rows.now c.args.pool.now c.args.stack.now)) c.args.part.now) c.args.part.now c.take_bytes-taken.result.from c.loop-i.table c.loop-i.rows c.loop-i.pool c.args.stack.now r c.loop-i.lits c.loop-i.plus c.loop-i.minus in
+    let FeedingBy : ProofReader → Type 0 = λ r. Feeding (run (session_of c.args.r c.args.lits.now c.args.falses.now.plus c.args.falses.now.minus (spelled c.args.t c.args.rows.now c.args.pool.now c.args.stack.now)) c.args.part.now) c.args.part.now c.take_bytes-taken.result.from c.loop-i.table c.loop-i.rows c.loop-i.pool c.args.stack.now r c.loop-i.lits c.loop-i.falses.plus c.loop-i.falses.minus in
     let here : FeedingBy c.with_word-reader.result = subst FeedingBy (sym c.with_word-reader.ensures) (past_word c.loop-i.invariant c.if-reader.false c.take_bytes-taken.ensures) in
     let at : ℕ = c.take_bytes-taken.result.from in
     let part : List ℕ = c.args.part.now in
@@ -29,7 +29,7 @@ loop-i-preserved-then-b-eq10 c =
 pub loop-i-preserved : goal.loop-i-preserved
 loop-i-preserved c =
     let goes_on : c.with_word-reader.result.over ≡ false = ap (λ (r : ProofReader). r.over) c.with_word-reader.ensures ∙ c.if-reader.false in
-    let FeedingBy : ProofReader → Type 0 = λ r. Feeding (run (session_of c.args.r c.args.lits.now c.args.plus.now c.args.minus.now (spelled c.args.t c.args.rows.now c.args.pool.now c.args.stack.now)) c.args.part.now) c.args.part.now c.take_bytes-taken.result.from c.loop-i.table c.loop-i.rows c.loop-i.pool c.args.stack.now r c.loop-i.lits c.loop-i.plus c.loop-i.minus in
+    let FeedingBy : ProofReader → Type 0 = λ r. Feeding (run (session_of c.args.r c.args.lits.now c.args.falses.now.plus c.args.falses.now.minus (spelled c.args.t c.args.rows.now c.args.pool.now c.args.stack.now)) c.args.part.now) c.args.part.now c.take_bytes-taken.result.from c.loop-i.table c.loop-i.rows c.loop-i.pool c.args.stack.now r c.loop-i.lits c.loop-i.falses.plus c.loop-i.falses.minus in
     let here : FeedingBy c.with_word-reader.result = subst FeedingBy (sym c.with_word-reader.ensures) (past_word c.loop-i.invariant c.if-reader.false c.take_bytes-taken.ensures) in
     let at : ℕ = c.take_bytes-taken.result.from in
     let part : List ℕ = c.args.part.now in
@@ -45,6 +45,6 @@ returns-then-reader c = fed_enough c.loop-i.invariant c.if-reader.true
 
 pub returns-then-i-part : goal.returns-then-i-part
 returns-then-i-part c =
-    let FeedingBy : ProofReader → Type 0 = λ r. Feeding (run (session_of c.args.r c.args.lits.now c.args.plus.now c.args.minus.now (spelled c.args.t c.args.rows.now c.args.pool.now c.args.stack.now)) c.args.part.now) c.args.part.now c.take_bytes-taken.result.from c.loop-i.table c.loop-i.rows c.loop-i.pool c.args.stack.now r c.loop-i.lits c.loop-i.plus c.loop-i.minus in
+    let FeedingBy : ProofReader → Type 0 = λ r. Feeding (run (session_of c.args.r c.args.lits.now c.args.falses.now.plus c.args.falses.now.minus (spelled c.args.t c.args.rows.now c.args.pool.now c.args.stack.now)) c.args.part.now) c.args.part.now c.take_bytes-taken.result.from c.loop-i.table c.loop-i.rows c.loop-i.pool c.args.stack.now r c.loop-i.lits c.loop-i.falses.plus c.loop-i.falses.minus in
     let here : FeedingBy c.with_word-reader.result = subst FeedingBy (sym c.with_word-reader.ensures) (past_word c.loop-i.invariant c.if-reader.false c.take_bytes-taken.ensures) in
     fed_all here (omega (arith, c.if-i-part.true))

@@ -8,7 +8,7 @@ use lib.ListN.{length}
 use Rattle.lrat_feed.proofs.feed.Given as goal
 
 abbrev pub invariant-loop-i : goal.invariant-loop-i
-invariant-loop-i l = Feeding (run (session_of l.initial.reader l.initial.lits l.initial.plus l.initial.minus (spelled l.initial.table l.initial.rows l.initial.pool l.stack)) l.part) l.part l.i l.table l.rows l.pool l.stack l.reader l.lits l.plus l.minus
+invariant-loop-i l = Feeding (run (session_of l.initial.reader l.initial.lits l.initial.falses.plus l.initial.falses.minus (spelled l.initial.table l.initial.rows l.initial.pool l.stack)) l.part) l.part l.i l.table l.rows l.pool l.stack l.reader l.lits l.falses.plus l.falses.minus
 
 abbrev pub decreases-loop-i : goal.decreases-loop-i
 decreases-loop-i l = length l.part - l.i

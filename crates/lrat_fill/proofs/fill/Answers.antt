@@ -4,4 +4,4 @@ use Rattle.lrat_fill.proofs.Opening.{sound_asked}
 use Rattle.lrat_fill.proofs.fill.Goals as goal
 
 pub add_all-requires : goal.add_all-requires
-add_all-requires c = sound_asked c.args.text.now c.requires (sym c.in-Sound.is ∙ c.judge-judged.ensures)
+add_all-requires c = sound_asked c.args.text.now c.requires (sym c.in_ok-counts.was ∙ c.judge.ensures)

@@ -9,13 +9,13 @@ use Rattle.judge_checks.proofs.Located.{found, missing}
 use Rattle.lrat_line.proofs.Deletions.{forgotten, dropped}
 use Rattle.lrat_line.proofs.take_deleted.Goals as goal
 
-pub returns-in-At : goal.returns-in-At
-returns-in-At c =
-    let learned : RowOf c.args.t c.args.rows.now 1 c.args.v c.in-At.k = found _ _ _ _ _ c.in-At.is c.locate.ensures in
+pub returns-in-Some : goal.returns-in-Some
+returns-in-Some c =
+    let learned : RowOf c.args.t c.args.rows.now 1 c.args.v c.in-Some.k = found _ _ _ _ _ c.in-Some.is c.locate.ensures in
     forgotten c.requires _ _ c.if-v-gt2147483647.false _ _ _ learned (c.remove.ensures [])
 
-pub returns-in-At-locate : goal.returns-in-At-locate
-returns-in-At-locate c =
+pub returns-in-Some-locate : goal.returns-in-Some-locate
+returns-in-Some-locate c =
     let not_learned : has (clauses 1 c.args.pool.now (held_rows c.args.t c.args.rows.now)) c.args.v ≡ false = missing _ _ _ _ c.in_default.is c.locate.ensures c.args.pool.now in
-    let irredundant : RowOf c.args.t c.args.rows.now 0 c.args.v c.in-At-locate.k = found _ _ _ _ _ c.in-At-locate.is c.locate-2.ensures in
-    dropped c.requires _ _ c.if-v-gt2147483647.false _ _ _ not_learned irredundant (c.remove-in-At-locate.ensures [])
+    let irredundant : RowOf c.args.t c.args.rows.now 0 c.args.v c.in-Some-locate.k = found _ _ _ _ _ c.in-Some-locate.is c.locate-2.ensures in
+    dropped c.requires _ _ c.if-v-gt2147483647.false _ _ _ not_learned irredundant (c.remove-in-Some-locate.ensures [])

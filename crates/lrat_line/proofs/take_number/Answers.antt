@@ -10,12 +10,12 @@ returns-then-l-eq0 c = number_id c.requires.0 _ _ c.requires.1 _ _ c.args.negati
 
 pub returns-then-l-lt3 : goal.returns-then-l-lt3
 returns-then-l-lt3 c =
-    number_literal c.requires.0 _ _ c.requires.1 c.args.plus.now c.args.minus.now c.args.negative c.args.v c.if-l-eq0.false c.if-l-lt3.true
+    number_literal c.requires.0 _ _ c.requires.1 c.args.falses.now.plus c.args.falses.now.minus c.args.negative c.args.v c.if-l-eq0.false c.if-l-lt3.true
     c.among_literals-line.ensures
 
 pub returns-then-l-eq3 : goal.returns-then-l-eq3
 returns-then-l-eq3 c =
-    number_hint c.requires.0 _ _ c.requires.1 c.args.plus.now c.args.minus.now c.args.negative c.args.v c.if-l-eq3.true
+    number_hint c.requires.0 _ _ c.requires.1 c.args.falses.now.plus c.args.falses.now.minus c.args.negative c.args.v c.if-l-eq3.true
     c.among_hints-line.ensures
 
 pub returns-else-l-eq3 : goal.returns-else-l-eq3

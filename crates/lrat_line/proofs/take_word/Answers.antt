@@ -6,7 +6,7 @@ pub returns-then-l-eq1 : goal.returns-then-l-eq1
 returns-then-l-eq1 c = word_d c.requires.0 _ _ c.requires.1 _ _ c.in-Deletion.is c.if-l-eq1.true c.enter.ensures
 
 pub returns-in-Number : goal.returns-in-Number
-returns-in-Number c = word_number c.requires.0 _ _ c.requires.1 c.args.plus.now c.args.minus.now _ _ c.in-Number.is c.take_number.ensures
+returns-in-Number c = word_number c.requires.0 _ _ c.requires.1 c.args.falses.now.plus c.args.falses.now.minus _ _ c.in-Number.is c.take_number.ensures
 
 pub returns-else-l-eq1 : goal.returns-else-l-eq1
 returns-else-l-eq1 c = word_misplaced c.requires.0 _ _ c.requires.1 _ _ c.in-Deletion.is c.if-l-eq1.false c.note.ensures

@@ -6,23 +6,23 @@ use Rattle.table.specs.Spelled.{spelled}
 use Rattle.lrat_serve.specs.Serving.{Tells}
 use Rattle.lrat_serve.proofs.Telling.{none_read, read_on, read_more, goes_on, told_so}
 use Rattle.lrat_serve.proofs.check.Goals as goal
-use Rattle.lrat_serve.proofs.check.Goals.{else-loop-read-test, then-loop-read-test+in-Err, then-loop-read-test+in_default+then-reader}
+use Rattle.lrat_serve.proofs.check.Goals.{else-loop-read-test, then-loop-read-test+in-Err, then-loop-read-test+in-Ok+then-reader}
 
 pub loop-read-init : goal.loop-read-init
-loop-read-init g c = (refl, refl, none_read c.requires c.start-reader.ensures)
+loop-read-init g c = (refl, refl, none_read c.requires c.start-reader.ensures c.empty-falses.ensures)
 
 pub loop-read-smaller : goal.loop-read-smaller
 loop-read-smaller g c =
     let l = c.loop-read in
-    let part = take c.count-n.result c.read-got.new.buf in
+    let part = take c.in-Ok.n c.read.new.buf in
     let some = goes_on c.requires.vars_fit.1 l.invariant.2 part c.feed_on-fed.ensures c.if-reader.false in
-    omega (arith, eqb-false (length part) 0 some, length-take-le c.count-n.result c.read-got.new.buf c.count-n.ensures, c.loop-read-test.true)
+    omega (arith, eqb-false (length part) 0 some, length-take-le c.in-Ok.n c.read.new.buf c.in-Ok.ensures.bound.0, c.loop-read-test.true)
 
 pub loop-read-preserved : goal.loop-read-preserved
 loop-read-preserved g c =
     let l = c.loop-read in
-    let part = take c.count-n.result c.read-got.new.buf in (
-      l.invariant.0 ∙ sym c.read-got.auto.buf,
+    let part = take c.in-Ok.n c.read.new.buf in (
+      l.invariant.0 ∙ sym c.read.auto.buf,
       l.invariant.1,
       read_more c.requires.vars_fit.1 l.invariant.2 part c.feed_on-fed.ensures c.if-reader.false,
     )
@@ -37,8 +37,8 @@ returns g c =
     (elim t.branch [
       | else-loop-read-test w ↦ told_so small v.2 t.failure w.reader-is (w.ended-is ∙ v.1)
       | then-loop-read-test+in-Err w ↦ told_so small v.2 t.failure w.reader-is (w.ended-is ∙ v.1)
-      | then-loop-read-test+in_default+then-reader w ↦
-          let part = take w.count-n.result w.read-got.new.buf in
+      | then-loop-read-test+in-Ok+then-reader w ↦
+          let part = take w.in-Ok.n w.read.new.buf in
           told_so small (read_on small v.2 part w.feed_on-fed.ensures) t.failure w.reader-is
-          (w.ended-is ∙ ap (λ k. eqb k 0) (sym (length-take-le w.count-n.result w.read-got.new.buf w.count-n.ensures)))
+          (w.ended-is ∙ ap (λ k. eqb k 0) (sym (length-take-le w.in-Ok.n w.read.new.buf w.in-Ok.ensures.bound.0)))
     ])

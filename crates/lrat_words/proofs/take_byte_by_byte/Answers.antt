@@ -1,4 +1,4 @@
-use Rattle.std.proofs.Common.{sym, ◌∙◌}
+use Rattle.std.proofs.Common.{rules, sym, ◌∙◌}
 use Rattle.lrat_words.proofs.Pushing.{pushed_more, pushed_none}
 use Rattle.lrat_words.proofs.take_byte_by_byte.Goals as goal
 
@@ -7,4 +7,4 @@ loop-i-init c = pushed_none _ _ _ c.requires
 
 pub loop-i-preserved : goal.loop-i-preserved
 loop-i-preserved c =
-    pushed_more c.loop-i.invariant c.loop-i-test.true (sym c.is_blank.ensures ∙ c.if-is_blank.false) c.push-word.ensures
+    pushed_more c.loop-i.invariant (search rules) (sym c.is_blank.ensures ∙ c.if-is_blank.false) c.push-word.ensures

@@ -1,11 +1,13 @@
 use Rattle.table_write.specs.Moved.{goes_by}
 use Rattle.judge_checks.specs.Located.{RowOf}
-use Rattle.judge_checks.proofs.Judging.{names}
-use Rattle.step_changes.proofs.Passing.{accepted, of_row}
+use Rattle.judge_checks.proofs.Order.{handed_on}
+use Rattle.step_changes.proofs.Passing.{unmoved, of_row}
 use Rattle.step_changes.proofs.drop_clause.Goals as goal
+
+pub returns-in_err-row : goal.returns-in_err-row
+returns-in_err-row c = rw (handed_on _ _ c.from_residual.ensures.1) (c.in_err-row.ensures, unmoved)
 
 pub returns : goal.returns
 returns c =
-    let row : RowOf c.args.t c.args.rows.now 0 c.args.id c.judge_drop-judged.result.row = names c.judge_drop-judged.ensures c.in_default.is in
-    accepted c.judge_drop-judged.ensures c.in_default.is c.accepted.ensures
-    (of_row (λ p i. goes_by p i c.args.hints.now) row (c.remove.ensures _))
+    let row : RowOf c.args.t c.args.rows.now 0 c.args.id c.in_ok-row.row = c.in_ok-row.ensures.1 in
+    (c.in_ok-row.ensures.0, of_row (λ p i. goes_by p i c.args.hints.now) row (c.remove.ensures _))

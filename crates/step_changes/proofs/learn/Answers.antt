@@ -1,13 +1,16 @@
 use native.Mathlib.Omega.{arith}
 use Rattle.table_write.specs.Moved.{NewClause}
-use Rattle.judge_checks.proofs.Judging.{comes_to}
-use Rattle.step_changes.proofs.Passing.{accepted, learn_passed}
+use Rattle.judge_checks.proofs.Order.{handed_on}
+use Rattle.step_changes.proofs.Passing.{unmoved, learn_passed}
 use Rattle.step_changes.proofs.learn.Goals as goal
+
+pub returns-in_err-judge_learn : goal.returns-in_err-judge_learn
+returns-in_err-judge_learn c = rw (handed_on _ _ c.from_residual.ensures.1) (c.in_err-judge_learn.ensures, unmoved)
 
 pub append-requires : goal.append-requires
 append-requires c =
-    let new : NewClause c.args.t c.args.pool.now c.args.id c.args.c.now = learn_passed c.requires.0 _ _ c.requires.1 c.requires.3 _ (comes_to c.judge_learn-judged.ensures c.in_default.is) in
+    let new : NewClause c.args.t c.args.pool.now c.args.id c.args.c.now = learn_passed c.requires.0 _ _ c.requires.1 c.requires.3 _ c.in_ok-judge_learn.ensures.0 in
     (c.requires.0, new, omega arith)
 
 pub returns : goal.returns
-returns c = accepted c.judge_learn-judged.ensures c.in_default.is c.accepted.ensures (c.append.ensures c.args.hints.now)
+returns c = (c.in_ok-judge_learn.ensures.0, c.append.ensures c.args.hints.now)

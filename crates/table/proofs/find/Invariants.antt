@@ -1,10 +1,6 @@
 -- Every row before k has a lesser id; past a greater id there is none.
-use Rattle.std.proofs.Common.{◌-◌, length}
 use Rattle.table.specs.Spelled.{Below}
 use Rattle.table.proofs.find.Given as goal
 
 abbrev pub invariant-loop-k : goal.invariant-loop-k
 invariant-loop-k l = Below l.rows l.id l.k
-
-abbrev pub decreases-loop-k : goal.decreases-loop-k
-decreases-loop-k l = length l.rows - l.k

@@ -1,10 +1,6 @@
 -- The first i rows are closed up to k.
-use Rattle.std.proofs.Common.{◌-◌, ◌≤◌}
 use Rattle.table_room.specs.Room.{ClosedUp}
 use Rattle.table_room.proofs.close_up.Given as goal
 
 abbrev pub invariant-loop-i : goal.invariant-loop-i
-invariant-loop-i l = ClosedUp l.initial.rows l.i l.k l.rows × (l.i ≤ l.count)
-
-abbrev pub decreases-loop-i : goal.decreases-loop-i
-decreases-loop-i l = l.count - l.i
+invariant-loop-i l = ClosedUp l.initial.rows l.i l.k l.rows

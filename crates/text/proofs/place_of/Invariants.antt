@@ -1,10 +1,7 @@
--- the bytes from i on lead from the place of byte i to that of byte `at` (Placing)
-use Rattle.std.proofs.Common.{◌-◌}
+-- the bytes from b on lead from its place to that of byte `at` (Placing)
+use Rattle.std.proofs.Common.{take}
 use Rattle.text.proofs.Placing.{Placing}
 use Rattle.text.proofs.place_of.Given as goal
 
-abbrev pub invariant-loop-i : goal.invariant-loop-i
-invariant-loop-i l = Placing l.text l.at l.place l.i
-
-abbrev pub decreases-loop-i : goal.decreases-loop-i
-decreases-loop-i l = l.at - l.i
+abbrev pub invariant-loop-b : goal.invariant-loop-b
+invariant-loop-b l = Placing (take l.at l.text) l.place l.b-index

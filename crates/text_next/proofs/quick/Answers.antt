@@ -1,4 +1,4 @@
-use Rattle.std.proofs.Common.{arith, ltb, not, refl, sym, ◌/◌, ◌||◌, ◌∙◌, ◌≤◌}
+use Rattle.std.proofs.Common.{arith, ltb, not, sym, refl, ◌/◌, ◌||◌, ◌∙◌, ◌≤◌}
 use Rattle.rules.proofs.Lists.{not-false, or-false}
 use Rattle.text_next.proofs.Short.{quick_told}
 use Rattle.text_next.proofs.Tops.{low_bit_most, low_bit_place}
@@ -18,6 +18,10 @@ returns c =
     let high : bits ≤ 63 = ltb-false 63 bits k.1 in
     let n = bits / 8 in
     let place = low_bit_place 8 _ _ c.low_bit-bits.ensures (omega arith) in
-    rw c.is_blank.ensures
-    (quick_told _ _ _ n c.requires (λ i. (c.type_inv.text i).fits) c.eight-x.ensures (omega arith) (omega arith)
-    _ _ _ place (sym c.are_digits.ensures ∙ not-false l.1) c.said_by-value.ensures _ _ refl c.bit-sign.ensures.0 c.last_digits-e.ensures)
+    let value = c.said_by-value.result in
+    let sign = c.from-sign.result in
+    let blank = c.is_blank.result in
+    let b = or-false (not blank) (ltb value sign) c.if-is_blank-value.false in
+    quick_told _ _ _ n c.requires (λ i. (c.type_inv.text i).fits) c.eight-x.ensures (omega arith) (omega arith)
+    _ _ _ place (sym c.are_digits.ensures ∙ not-false l.1) c.said_by-value.ensures _ _ refl c.from-sign.ensures c.last_digits-e.ensures
+    (sym c.is_blank.ensures ∙ not-false b.0) (ltb-false value sign b.1)

@@ -1,4 +1,4 @@
-use Rattle.std.proofs.Common.{sym, ◌∙◌}
+use Rattle.std.proofs.Common.{rules, sym, ◌∙◌}
 use Rattle.text_numbers.proofs.Saying.{saying_more, saying_none}
 use Rattle.text_numbers.proofs.digits.Goals as goal
 
@@ -7,4 +7,4 @@ loop-i-init c = saying_none _ _ c.requires
 
 pub loop-i-preserved : goal.loop-i-preserved
 loop-i-preserved c =
-    saying_more c.loop-i.invariant c.loop-i-test.true (sym c.is_digit.ensures ∙ c.if-not-is_digit.false) _ (λ n e. c.grown-value.ensures n e ∙ rw c.wide.ensures)
+    saying_more c.loop-i.invariant (search rules) (sym c.is_digit.ensures ∙ c.if-not-is_digit.false) _ (λ n e. c.grown-value.ensures n e ∙ rw c.from.ensures)

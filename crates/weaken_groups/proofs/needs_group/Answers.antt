@@ -1,7 +1,6 @@
 -- Each return cites the tests before it.
-use mathlib.Core.Path.{◌≡◌, sym, ◌∙◌, ap}
+use mathlib.Core.Path.{sym, ◌∙◌, ap}
 use mathlib.Core.Bool.{not}
-use Rattle.table.specs.Spelled.{Row, row_at, id_of, place_of}
 use Rattle.weaken_groups.proofs.Due.{not_irredundant, itself, unopposed, by_shared}
 use Rattle.weaken_groups.proofs.needs_group.Goals as goal
 
@@ -13,15 +12,11 @@ returns-then-id_at-id c = itself _ _ _ _ (sym c.place_at.ensures ∙ c.if-place_
 
 pub returns-then-not-opposed : goal.returns-then-not-opposed
 returns-then-not-opposed c =
-    let r : Row = row_at c.args.rows.now c.args.d in
-    let irredundant : place_of r ≡ 0 = sym c.place_at.ensures ∙ c.if-place_at-ne0.false in
-    let other : id_of r ≡ c.args.id → ⊥ = λ q. c.if-id_at-id.false (c.id_at.ensures ∙ q) in
-    unopposed _ _ _ _ irredundant other _ c.clause_of-lits.ensures (sym c.opposed.ensures ∙ c.if-not-opposed.true)
+    unopposed _ _ _ _ (sym c.place_at.ensures ∙ c.if-place_at-ne0.false) (λ q. c.if-id_at-id.false (c.id_at.ensures ∙ q)) _ c.clause_of-lits.ensures
+    (sym c.opposed.ensures ∙ c.if-not-opposed.true)
 
 pub returns : goal.returns
 returns c =
-    let r : Row = row_at c.args.rows.now c.args.d in
-    let irredundant : place_of r ≡ 0 = sym c.place_at.ensures ∙ c.if-place_at-ne0.false in
-    let other : id_of r ≡ c.args.id → ⊥ = λ q. c.if-id_at-id.false (c.id_at.ensures ∙ q) in
-    ap not c.shares.ensures ∙ by_shared _ _ _ _ irredundant other _ c.clause_of-lits.ensures
+    ap not c.shares.ensures
+    ∙ by_shared _ _ _ _ (sym c.place_at.ensures ∙ c.if-place_at-ne0.false) (λ q. c.if-id_at-id.false (c.id_at.ensures ∙ q)) _ c.clause_of-lits.ensures
     (sym c.opposed.ensures ∙ c.if-not-opposed.false)

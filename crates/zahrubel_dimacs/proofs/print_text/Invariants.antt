@@ -2,8 +2,8 @@
 use Rattle.std.proofs.Common.{◌≡◌, ◌≤◌, ◌-◌, length}
 use Rattle.zahrubel_dimacs.proofs.print_text.Given as goal
 
-abbrev pub invariant-loop-at : goal.invariant-loop-at
-invariant-loop-at l = (258 ≡ length l.frame) × (65536 ≡ length l.out) × (l.cursor.id ≤ 2147483647)
+abbrev pub invariant-loop-behind : goal.invariant-loop-behind
+invariant-loop-behind l = (258 ≡ length l.frame) × (65536 ≡ length l.out) × (l.cursor.id ≤ 2147483647)
 
-abbrev pub decreases-loop-at : goal.decreases-loop-at
-decreases-loop-at l = 2147483647 - l.cursor.id
+abbrev pub decreases-loop-behind : goal.decreases-loop-behind
+decreases-loop-behind l = 2147483647 - l.cursor.id

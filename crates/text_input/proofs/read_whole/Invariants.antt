@@ -1,9 +1,0 @@
--- So many bytes of the buffer were read, and it is as long as it was.
-use Rattle.std.proofs.Common.{◌≤◌, ◌≡◌, ◌-◌, length}
-use Rattle.text_input.proofs.read_whole.Given as goal
-
-abbrev pub invariant-loop-done : goal.invariant-loop-done
-invariant-loop-done g l = (l.done ≤ length l.buf) × (length l.buf ≡ length l.initial.buf)
-
-abbrev pub decreases-loop-done : goal.decreases-loop-done
-decreases-loop-done g l = length l.buf - l.done
