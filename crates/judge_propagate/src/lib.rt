@@ -61,25 +61,25 @@ pub enum Looked {
     Bad,
 }
 
-// One hint, read by its clause.
+// One hint, read by its clause, for the checker of proofs, whose hints come one by one. It is not `propagate`'s: document 01 names the form of that scan.
 pub fn look(clause: &[i32], falses: &mut LitSet) -> Looked
     requires { all_pass (in_range 2048) clause.now ≡ true }
     ensures { HintRead (read (literals falses.old) clause.now) (literals falses.old) result (literals falses.new) }
 {
     let mut open: Option<i32> = None;
-    for &l in clause {
-        if falses.has(l) {
+    for &literal in clause {
+        if falses.has(literal) {
             continue;
         }
-        if open.is_some() || falses.has_opposite(l) {
+        if open.is_some() || falses.has_opposite(literal) {
             return Looked::Bad;
         }
-        open = Some(l);
+        open = Some(literal);
     }
-    let Some(forced) = open else {
+    let Some(unit) = open else {
         return Looked::Conflict;
     };
-    falses.insert(lit::opposite(forced));
+    falses.insert(lit::opposite(unit));
     Looked::Forced
 }
 
@@ -102,22 +102,28 @@ pub fn propagate(
     ensures { run_of result ≡ run (allowed_of scope pool.now rows.now) (literals falses) 0 hints.now }
 {
     let mut verdict = Verdict::UsedUp;
-    for (h, &hint) in hints.iter().enumerate() {
+    'hints: for (h, &hint) in hints.iter().enumerate() {
         let Some(k) = pick(rows, scope, hint) else {
             verdict = Verdict::BadHint(h);
-            break;
+            break 'hints;
         };
-        match look(table::clause_of(rows, pool, k), &mut falses) {
-            Looked::Conflict => {
-                verdict = Verdict::Proved(h + 1);
-                break;
+        let clause = table::clause_of(rows, pool, k);
+        let mut open: Option<i32> = None;
+        for &l in clause {
+            if falses.has(l) {
+                continue;
             }
-            Looked::Forced => (),
-            Looked::Bad => {
+            if open.is_some() || falses.has_opposite(l) {
                 verdict = Verdict::BadHint(h);
-                break;
+                break 'hints;
             }
+            open = Some(l);
         }
+        let Some(forced) = open else {
+            verdict = Verdict::Proved(h + 1);
+            break 'hints;
+        };
+        falses.insert(lit::opposite(forced));
     }
     Propagated { verdict, falses }
 }

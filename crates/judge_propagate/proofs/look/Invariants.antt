@@ -3,5 +3,5 @@ use Rattle.lit_sets.specs.Words.{literals}
 use Rattle.judge_propagate.proofs.Scan.{Scanned}
 use Rattle.judge_propagate.proofs.look.Given as goal
 
-abbrev pub invariant-loop-l : goal.invariant-loop-l
-invariant-loop-l l = Scanned (literals l.falses) l.clause l.«open» l.l-index
+abbrev pub invariant-loop-literal : goal.invariant-loop-literal
+invariant-loop-literal l = Scanned (literals l.falses) l.clause l.«open» l.literal-index
