@@ -9,7 +9,10 @@ pub fn write_literals(tail: &mut [i32], lits: &[i32])
     requires { length lits.now ≤ length tail.old }
     ensures { tail.new ≡ over tail.old lits.now }
 {
-    tail[..lits.len()].copy_from_slice(lits);
+    // A loop: the library's `copy_from_slice` calls `memmove`, which an archive for C would then need from outside.
+    for (i, &l) in lits.iter().enumerate() {
+        tail[i] = l;
+    }
 }
 
 // The literals, and the witness behind them, over the words of the pool from `at` on.
