@@ -24,6 +24,11 @@ stored w h =
 
 -- ---- there and back
 
+-- what is stored in 32 bits is a word
+pub held : (x : ℤ) → SFits w32 x → is_word x ≡ true
+held (pos n) f = lt-ltb n 2147483648 f.sfits
+held (negsuc n) f = lt-ltb n 2147483648 f.sfits
+
 pub unsigned_few : (x : ℤ) → is_word x ≡ true → unsigned x < 4294967296
 unsigned_few (pos n) e = omega (arith, ltb-true n 2147483648 e)
 unsigned_few (negsuc n) e = omega arith

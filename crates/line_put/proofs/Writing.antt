@@ -5,7 +5,7 @@ use Prim.Native.Nat.{ℕ, zero, suc, ◌+◌, ◌-◌, ◌*◌, ◌/◌, ◌%◌
 use native.Mathlib.Omega.{arith}
 use native.Mathlib.Numerals.{add-one}
 use native.Mathlib.Nat.{pow-suc}
-use lib.ListN.{length, take, drop, set, length-append, length-set}
+use lib.ListN.{length, take, drop, set, length-append, length-set, length-take}
 use lib.Seq.{take-suc-set, drop-set-lt}
 use lib.Pow.{pow-add}
 use Rattle.line_hex.specs.Hex.{glyph, hex}
@@ -25,6 +25,12 @@ wrote_then {o} {xs} {o₁} {ys} {o₂} {a} {a₁} {a₂} p q = record {
 
 pub wrote_as : {o xs ys o₁ : List ℕ} {a a₁ : ℕ} → xs ≡ ys → Wrote o a xs o₁ a₁ → Wrote o a ys o₁ a₁
 wrote_as {o} {xs} {ys} {o₁} {a} {a₁} e w = rw e at w
+
+-- what was put from the start of a buffer on lies inside it
+pub wrote_first : {o xs o₁ : List ℕ} {a : ℕ} → Wrote o 0 xs o₁ a → (a ≤ length o₁) × (a ≡ length (take a o₁))
+wrote_first {o} {xs} {o₁} {a} w =
+    let e : a ≡ length (take a o₁) = omega (arith, w.place, ap length w.bytes) in
+    (omega (arith, e, length-take a o₁), e)
 
 -- ---- a number
 

@@ -1,5 +1,6 @@
 -- A reply: its length, and the room that it takes.
 use mathlib.Core.Path.{◌≡◌, refl}
+use mathlib.Core.Bool.{Bool, true, false, cond}
 use mathlib.Core.List.{List, [], ◌∷◌, ◌++◌}
 use Prim.Native.Nat.{ℕ, zero, suc, ◌+◌, ◌*◌, ◌≤◌}
 use native.Mathlib.Omega.{arith}
@@ -7,11 +8,14 @@ use lib.ListN.{length, length-append}
 use Rattle.rules.specs.Terms.{Assignment}
 use Rattle.rules.specs.Answers.{numbers, Handed, untouched, mended, Outcome}
 use Rattle.rules.specs.Outcomes.{trues}
+use Rattle.std.specs.Prelude.{Err}
 use Rattle.rules.specs.Results.{Answer}
+use Rattle.rules.specs.declared.Fault.TheVariants.{Malformed}
 use Rattle.rules.proofs.Lists.{by_cases}
 use Rattle.line_hex.specs.Hex.{hex}
 use Rattle.line_hex.proofs.Digits.{hex_length}
-use Rattle.line_read.specs.Lines.{in_hex, numbered, following, reply}
+use Rattle.line_read.specs.Lines.{in_hex, numbered, following, reply, refusal}
+use Rattle.line_read.specs.Machine.{is_begun, end_reply}
 use Rattle.line_read.specs.Lent.{Wrote}
 
 pub numbered_length : (a : Answer) → length (numbered a) ≡ 16
@@ -49,3 +53,12 @@ reply_room vars r h w =
     few : (h : Handed) → length (following vars h) ≤ vars
     few untouched = omega arith
     few (mended α β) = omega (arith, trues_few β vars [])
+
+-- and for what the end of the input is answered
+pub ended_room : {o : List ℕ} {at : ℕ} (d : ℕ) (spoilt : Bool) {o' : List ℕ} {a : ℕ} → Wrote o at (end_reply d spoilt) o' a → a ≤ at + 17
+unfolding in_hex
+ended_room d spoilt w = omega (arith, w.place, few (is_begun d spoilt))
+  where
+    few : (begun : Bool) → length (cond begun refusal []) ≤ 17
+    few true = omega (arith, length-append (numbered (Err Malformed)) (10 ∷ []), numbered_length (Err Malformed))
+    few false = omega arith

@@ -265,3 +265,17 @@ module _ {t : Table} {rows : List Row} {pool : List ℤ} {stack : List ℕ} {t' 
     (m : Roomy t rows pool stack t' rows' pool' n) where
   pub roomy_lengths : (length rows' ≡ length rows) × (length pool' ≡ length pool)
   roomy_lengths = (m.long, ap (λ (s : State). s.words) m.same)
+
+  -- where there is room for n words there is room for fewer
+  pub roomy_less : {k : ℕ} → k ≤ n → Roomy t rows pool stack t' rows' pool' k
+  roomy_less h = record {
+    fit = m.fit;
+    same = m.same;
+    entries = m.entries;
+    count = m.count;
+    gone = m.gone;
+    long = m.long;
+    words = m.words;
+    depth = m.depth;
+    room = omega (arith, m.room);
+  }
