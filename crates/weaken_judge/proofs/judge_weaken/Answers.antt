@@ -1,5 +1,6 @@
 -- Each return cites the checks before it.
 use mathlib.Core.Path.{◌≡◌, sym, ◌∙◌, ap}
+use borrow.Author.Rules.{rules}
 use borrow.Author.Tests.{le-leb, lt-leb}
 use Rattle.std.specs.Prelude.{Ok, Err}
 use Rattle.rules.specs.Answers.{flaw, unseen, check}
@@ -39,7 +40,7 @@ returns-then-not-shared c =
 pub returns-then-pool-words : goal.returns-then-pool-words
 returns-then-pool-words c =
     behind c.requires.0 _ _ _ c.in_ok-k.ensures c.clause_of-c.ensures c.mark-set.ensures (sym c.flaw.ensures ∙ c.in_ok-flaw.was) c.shares-shared.ensures
-    ∙ goes_on (met c.if-not-shared.false _) _
+    ∙ goes_on (met (search rules) _) _
     ∙ stops (free_words_is c.requires.0 _ ∙ unmet (lt-leb _ _ c.if-pool-words.true) _) _
 
 pub all_groups-requires : goal.all_groups-requires
